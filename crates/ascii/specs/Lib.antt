@@ -1,0 +1,5 @@
+pub mod Text
+pub mod TextLaws
+pub mod Letters
+pub mod LettersLaws
+pub mod TestLaws

@@ -1,0 +1,119 @@
+-- `numbers::duration::part_at` meets its contract, by the laws of a part. Assumes nothing.
+use mathlib.Core.Path.{_≡_, sym, ap, _∙_}
+use Prim.Native.Nat.{_≤_}
+use native.Mathlib.Omega.{arith}
+use borrow.Author.Needs.{needs}
+use lib.ListN.{length, length-map}
+use lib.Seq.{length-take-le}
+use Rattle.ascii.specs.Letters.{isDigit, equal}
+use Rattle.ascii.specs.Text.{part}
+use Rattle.ascii.specs.TextLaws.{end-within}
+use Rattle.numbers.specs.Duration.{unitAt, isUnitByte}
+use Rattle.numbers.specs.DurationLaws.{amount-small, part-none, part-long, part-other, part-found}
+use Rattle.numbers.proofs.duration.part_at.Statement.{statement}
+use Rattle.numbers.proofs.duration.part_at.Tie as tie
+
+digits-end-requires : tie.Need-digits-end-requires
+digits-end-requires c κs = search needs
+
+returns : tie.Need-returns
+returns c = sym (part-none _ _ _ (c .before .digits-end .ensures) (c .if1 .taken))
+
+add-if2 : tie.Need-add-if2
+add-if2 c = search needs
+
+returns-2 : tie.Need-returns-2
+returns-2 c = sym (part-long _ _ _ (c .before .before .digits-end .ensures) (omega arith))
+
+unit-end-requires : tie.Need-unit-end-requires
+unit-end-requires c κs = search needs
+
+time-unit-requires : tie.Need-time-unit-requires
+time-unit-requires c κs = search needs
+
+-- the digits end no earlier than they begin, the name no earlier than the digits, and both within the word
+ends : (c : tie.After-unit-end) → let s = c .before .before .before .before .before .args in let d = c .before .before .before .digits-end .result in (s .at ≤ d) × (d ≤ c .unit-end .result) × (c .unit-end .result ≤ length (s .word .now))
+ends c =
+    let s = c .before .before .before .before .before in
+    let d = c .before .before .before .digits-end in
+    let a = end-within isDigit (s .args .word .now) (s .args .at) (s .pre .0) (d .ensures) in
+    let b = end-within isUnitByte (s .args .word .now) (d .result) (a .1) (c .unit-end .ensures) in
+    (a .0, b .0, b .1)
+
+sub-eq : tie.Need-sub-eq
+sub-eq c = ends (c .before .before) .1
+
+part-eq-start : tie.Need-part-eq-start
+part-eq-start c = ends (c .before .before) .1
+
+part-eq-end : tie.Need-part-eq-end
+part-eq-end c = ends (c .before .before) .2
+
+-- a unit's name is within its array, which has two elements
+in-name : (c : tie.After-time-unit) → c .time-unit .result .len ≤ length (c .time-unit .result .name)
+in-name c =
+    let two = sym (length-map (c .time-unit .result .name) (λ b. b)) ∙ c .time-unit .ok .1 .1 .0 .1 .0 .1 in
+    omega (arith, c .time-unit .ensures .len)
+
+array-share-prefix-name : tie.Need-array-share-prefix-name
+array-share-prefix-name c = in-name (c .before .before)
+
+slice-aggregate-eq : tie.Need-slice-aggregate-eq
+slice-aggregate-eq c = sym (length-take-le _ _ (in-name (c .before .before .before)))
+
+eq-requires : tie.Need-eq-requires
+eq-requires c κs = search needs
+
+-- what is compared is the name in the word and the unit's
+named : (c : tie.After-eq) → let s = c .before .before .before .before .before .before .before .before .before .before .args in c .eq .result ≡ equal (part (s .word .now) (c .before .before .before .before .before .before .before .before .digits-end .result) (c .before .before .before .before .before .unit-end .result)) (unitAt (s .rank) .name)
+unfolding part
+named c = c .eq .ensures ∙ ap (equal _) (c .before .before .before .before .time-unit .ensures .name)
+
+class-end-requires : tie.Need-class-end-requires
+class-end-requires c κs = search needs
+
+decimal-of-requires : tie.Need-decimal-of-requires
+decimal-of-requires c κs =
+    let e = c .before .before .before .before .before .before .before in
+    let l = ends e in
+    (l .0, (omega arith, (omega (arith, e .before .if2 .left), sym (e .before .before .before .digits-end .ensures))))
+
+mul-t20 : tie.Need-mul-t20
+mul-t20 c =
+    let t = c .before .before .before .before .before .before .before .before in
+    omega (arith, amount-small (t .before .before .before .before .before .before .args .rank) (c .before .decimal-of .ensures .1) (t .time-unit .ensures .milliseconds))
+
+returns-3 : tie.Need-returns-3
+returns-3 c =
+    let q = c .before .before .before .before in
+    let t = q .before .before .before .before in
+    let e = t .before in
+    rw (c .before .decimal-of .ensures .0, t .time-unit .ensures .milliseconds, c .before .before .class-end .ensures)
+    (sym (part-found _ _ _ (e .before .before .before .digits-end .ensures) (e .unit-end .ensures) (e .before .before .if1 .left) (omega (arith, e .before .if2 .left)) (sym (named q) ∙ c .before .before .before .if3 .taken)))
+
+returns-4 : tie.Need-returns-4
+returns-4 c =
+    let e = c .before .before .before .before .before .before in
+    sym (part-other _ _ _ (e .before .before .before .digits-end .ensures) (e .unit-end .ensures) (sym (named (c .before)) ∙ c .if3 .left))
+
+pub part-at-spec : {M : Type 1} → statement M
+part-at-spec =
+    tie.close
+    (tie.spec
+    digits-end-requires
+    returns
+    add-if2
+    returns-2
+    unit-end-requires
+    time-unit-requires
+    sub-eq
+    part-eq-start
+    part-eq-end
+    array-share-prefix-name
+    slice-aggregate-eq
+    eq-requires
+    class-end-requires
+    decimal-of-requires
+    mul-t20
+    returns-3
+    returns-4)

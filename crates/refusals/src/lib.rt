@@ -1,0 +1,193 @@
+// The refusals: the number of each cause, its word, and where it was met.
+ghost use mathlib.Core.Path.{_≡_};
+ghost use Rattle.refusals.specs.Refusals.{rowOf};
+
+// A refusal: its number, and the place that its cause gives it.
+pub struct Refusal {
+    pub number: u8,
+    pub place: usize,
+}
+
+// short buffer: lent output too short.
+pub const SHORT_BUFFER: u8 = 1;
+
+// long text: over 2,048 bytes.
+pub const LONG_TEXT: u8 = 2;
+
+// foreign byte: a byte of 128 or more in the text.
+pub const FOREIGN_BYTE: u8 = 3;
+
+// half sign: `&` or `|` not followed by its like.
+pub const HALF_SIGN: u8 = 4;
+
+// open quote: no closing mark of the same sort.
+pub const OPEN_QUOTE: u8 = 5;
+
+// stray character: none of the classes.
+pub const STRAY_CHARACTER: u8 = 6;
+
+// no expression: expression expected.
+pub const NO_EXPRESSION: u8 = 7;
+
+// open bracket: `)` expected.
+pub const OPEN_BRACKET: u8 = 8;
+
+// trailing token: tokens left after the rule.
+pub const TRAILING_TOKEN: u8 = 9;
+
+// unknown function: name before `(` not known.
+pub const UNKNOWN_FUNCTION: u8 = 10;
+
+// missing argument: count, duration or the comma after a count expected.
+pub const MISSING_ARGUMENT: u8 = 11;
+
+// bad count: word is no count.
+pub const BAD_COUNT: u8 = 12;
+
+// bad duration: word is no duration.
+pub const BAD_DURATION: u8 = 13;
+
+// empty list: list function without arguments.
+pub const EMPTY_LIST: u8 = 14;
+
+// too deep: a bracket opened while 64 stand open.
+pub const TOO_DEEP: u8 = 15;
+
+// bad image: layout broken.
+pub const BAD_IMAGE: u8 = 16;
+
+// bad store table: layout broken.
+pub const BAD_STORE_TABLE: u8 = 17;
+
+// twin name: two stores of one name.
+pub const TWIN_NAME: u8 = 18;
+
+// bad confirmed list: layout broken.
+pub const BAD_CONFIRMED_LIST: u8 = 19;
+
+// unknown store: rule names a store not in the table.
+pub const UNKNOWN_STORE: u8 = 20;
+
+// unconfirmed: evicts with nothing confirmed.
+pub const UNCONFIRMED: u8 = 21;
+
+// archive only: evicts on write-only stores alone.
+pub const ARCHIVE_ONLY: u8 = 22;
+
+// A row of the table: a number and its word, filled up with blanks.
+pub struct Row {
+    pub number: u8,
+    pub word: [u8; 18],
+}
+
+const TABLE: [Row; 22] = [
+    Row {
+        number: SHORT_BUFFER,
+        word: *b"short buffer      ",
+    },
+    Row {
+        number: LONG_TEXT,
+        word: *b"long text         ",
+    },
+    Row {
+        number: FOREIGN_BYTE,
+        word: *b"foreign byte      ",
+    },
+    Row {
+        number: HALF_SIGN,
+        word: *b"half sign         ",
+    },
+    Row {
+        number: OPEN_QUOTE,
+        word: *b"open quote        ",
+    },
+    Row {
+        number: STRAY_CHARACTER,
+        word: *b"stray character   ",
+    },
+    Row {
+        number: NO_EXPRESSION,
+        word: *b"no expression     ",
+    },
+    Row {
+        number: OPEN_BRACKET,
+        word: *b"open bracket      ",
+    },
+    Row {
+        number: TRAILING_TOKEN,
+        word: *b"trailing token    ",
+    },
+    Row {
+        number: UNKNOWN_FUNCTION,
+        word: *b"unknown function  ",
+    },
+    Row {
+        number: MISSING_ARGUMENT,
+        word: *b"missing argument  ",
+    },
+    Row {
+        number: BAD_COUNT,
+        word: *b"bad count         ",
+    },
+    Row {
+        number: BAD_DURATION,
+        word: *b"bad duration      ",
+    },
+    Row {
+        number: EMPTY_LIST,
+        word: *b"empty list        ",
+    },
+    Row {
+        number: TOO_DEEP,
+        word: *b"too deep          ",
+    },
+    Row {
+        number: BAD_IMAGE,
+        word: *b"bad image         ",
+    },
+    Row {
+        number: BAD_STORE_TABLE,
+        word: *b"bad store table   ",
+    },
+    Row {
+        number: TWIN_NAME,
+        word: *b"twin name         ",
+    },
+    Row {
+        number: BAD_CONFIRMED_LIST,
+        word: *b"bad confirmed list",
+    },
+    Row {
+        number: UNKNOWN_STORE,
+        word: *b"unknown store     ",
+    },
+    Row {
+        number: UNCONFIRMED,
+        word: *b"unconfirmed       ",
+    },
+    Row {
+        number: ARCHIVE_ONLY,
+        word: *b"archive only      ",
+    },
+];
+
+// The row of a number, by which a program tells a person what was refused; a number that no refusal has gets a blank word.
+pub fn row_of(number: u8) -> Row
+    ensures { λ r. ⌜ r ≡ rowOf number ⌝ }
+{
+    if number == 0 {
+        return Row {
+            number,
+            word: [b' '; 18],
+        };
+    }
+    let i = (number - 1) as usize;
+    if i < 22 {
+        TABLE[i]
+    } else {
+        Row {
+            number,
+            word: [b' '; 18],
+        }
+    }
+}

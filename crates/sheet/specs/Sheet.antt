@@ -1,0 +1,115 @@
+-- Worked examples of tokens, counts and durations, held together as one table and proved by one statement over all of its
+-- rows. Assumes nothing.
+use mathlib.Core.Path.{_≡_, refl}
+use mathlib.Core.Bool.{true, false}
+use mathlib.Core.List.{List, [], _∷_, map, List·Memᴰ, List·Memᴰ·head, List·Memᴰ·tail}
+use Prim.Native.Nat.{ℕ}
+use Prim.Native.String.{String}
+use Rattle.ascii.specs.Text.{bytes, part, run, runEnd}
+use Rattle.ascii.specs.Letters.{lower, equalBy}
+use Rattle.classes.specs.Class.{classOf, ofClass}
+use Rattle.refusals.specs.Refusals.{refusal, halfSign, openQuote, strayCharacter}
+use Rattle.words.specs.declared.Token.{Token}
+use Rattle.words.specs.declared.Token.the-variants.{End, Open, Close, Comma, And, Or, Word, Fault}
+use Rattle.words.specs.declared.Scanned.{Scanned}
+use Rattle.words.specs.declared.Scanned.the-variants.{Clean, Refused}
+use Rattle.words.specs.Token.{other, doubled, quotedTo, quotedAt, bareTo, bareAt, tokenOf, startAt, tokenAt, nextOf, tokensBy, tokensFrom, scanOf}
+use Rattle.numbers.specs.declared.Parsed.{Parsed}
+use Rattle.numbers.specs.declared.Parsed.the-variants.{Value, Invalid}
+use Rattle.numbers.specs.Count.{countOf}
+use Rattle.numbers.specs.Duration.{durationOf}
+
+-- a row: a text, and its tokens, its first fault, or the number that it is as a count or as a duration
+pub data Row : Type 0 where
+  tokens : String → List Token → Row
+  scan : String → Scanned → Row
+  count : String → Parsed → Row
+  duration : String → Parsed → Row
+
+pub data Answer : Type 0 where
+  tokenList : List Token → Answer
+  scanned : Scanned → Answer
+  parsed : Parsed → Answer
+
+-- what the definitions give for a row's text
+unfoldable pub answerOf : Row → Answer
+answerOf (tokens t ts) = tokenList (tokensFrom (bytes t) 0)
+answerOf (scan t r) = scanned (scanOf (tokensFrom (bytes t) 0))
+answerOf (count t n) = parsed (countOf (bytes t))
+answerOf (duration t n) = parsed (durationOf (bytes t))
+
+-- what the row says
+unfoldable pub expected : Row → Answer
+expected (tokens t ts) = tokenList ts
+expected (scan t r) = scanned r
+expected (count t n) = parsed n
+expected (duration t n) = parsed n
+
+-- a bare word and a quoted one, from its place up to where the text goes on
+abbrev bare : ℕ → ℕ → Token
+bare p n = Word p p n false n
+
+abbrev fault : ℕ → ℕ → Token
+fault n p = Fault (refusal n p)
+
+abbrev pub rows : List Row
+rows =
+    tokens "" (End 0 ∷ []) ∷
+    tokens "nas && readable(1)" (bare 0 3 ∷ And 4 6 ∷ bare 7 15 ∷ Open 15 16 ∷ bare 16 17 ∷ Close 17 18 ∷ End 18 ∷ []) ∷
+    tokens ") a &" (Close 0 1 ∷ bare 2 3 ∷ fault halfSign 4 ∷ []) ∷
+    tokens "any( " (bare 0 3 ∷ Open 3 4 ∷ End 5 ∷ []) ∷
+    tokens "any(a,)" (bare 0 3 ∷ Open 3 4 ∷ bare 4 5 ∷ Comma 5 6 ∷ Close 6 7 ∷ End 7 ∷ []) ∷
+    tokens "a'b'" (bare 0 1 ∷ Word 1 2 3 true 4 ∷ End 4 ∷ []) ∷
+    tokens "''" (Word 0 1 1 true 2 ∷ End 2 ∷ []) ∷
+    tokens "\"it's\"" (Word 0 1 5 true 6 ∷ End 6 ∷ []) ∷
+    tokens "a aNd b OR c" (bare 0 1 ∷ And 2 5 ∷ bare 6 7 ∷ Or 8 10 ∷ bare 11 12 ∷ End 12 ∷ []) ∷
+    tokens "'and'(a)" (Word 0 1 4 true 5 ∷ Open 5 6 ∷ bare 6 7 ∷ Close 7 8 ∷ End 8 ∷ []) ∷
+    tokens "a.and.b" (bare 0 7 ∷ End 7 ∷ []) ∷
+    tokens "a\t||\u{b}b" (bare 0 1 ∷ Or 2 4 ∷ bare 5 6 ∷ End 6 ∷ []) ∷
+    tokens "older_than(1h 30m)" (bare 0 10 ∷ Open 10 11 ∷ bare 11 13 ∷ bare 14 17 ∷ Close 17 18 ∷ End 18 ∷ []) ∷
+    scan "nas || vault" Clean ∷
+    scan "'a # b" (Refused (refusal openQuote 0)) ∷
+    scan "a # '" (Refused (refusal strayCharacter 2)) ∷
+    scan "a &&& b" (Refused (refusal halfSign 4)) ∷
+    scan "a | b" (Refused (refusal halfSign 2)) ∷
+    scan "\"a'" (Refused (refusal openQuote 0)) ∷
+    scan "'\0\u{7f}'" Clean ∷
+    scan "\u{7f}" (Refused (refusal strayCharacter 0)) ∷
+    scan "\u{1c}" (Refused (refusal strayCharacter 0)) ∷
+    count "1" (Value 1) ∷
+    count "+1" (Value 1) ∷
+    count "+" Invalid ∷
+    count "" Invalid ∷
+    count " 1" Invalid ∷
+    count "1x" Invalid ∷
+    count "18446744073709551615" (Value 18_446_744_073_709_551_615) ∷
+    count "18446744073709551616" Invalid ∷
+    count "000000000000000000007" (Value 7) ∷
+    duration "1h 30m" (Value 5_400_000) ∷
+    duration " 30d " (Value 2_592_000_000) ∷
+    duration "1d2h3m4s5ms" (Value 93_784_005) ∷
+    duration "0s" (Value 0) ∷
+    duration "999999999d" (Value 86_399_999_913_600_000) ∷
+    duration "0000000001d" Invalid ∷
+    duration "1mms" Invalid ∷
+    duration "1m s" Invalid ∷
+    duration "1ms1s" Invalid ∷
+    duration "1h1h" Invalid ∷
+    duration "1 d" Invalid ∷
+    duration "30D" Invalid ∷
+    duration "30" Invalid ∷
+    duration "" Invalid ∷
+    []
+
+-- by computation, over all rows at once
+rows-computed : map answerOf rows ≡ map expected rows
+unfolding answerOf expected run runEnd part lower equalBy classOf ofClass other doubled quotedTo quotedAt bareTo bareAt tokenOf startAt tokenAt nextOf tokensBy tokensFrom scanOf countOf durationOf
+rows-computed = refl
+
+-- each row holds
+each : (rs : List Row) → map answerOf rs ≡ map expected rs → (r : Row) → List·Memᴰ r rs → answerOf r ≡ expected r
+each rs e r (List·Memᴰ·head {x} {xs} q) = rw q (cc)
+each rs e r (List·Memᴰ·tail {x} {xs} m) = each xs (cc) r m
+
+pub sheet : (r : Row) → List·Memᴰ r rows → answerOf r ≡ expected r
+sheet = each rows rows-computed
