@@ -1,0 +1,78 @@
+-- `image::put_tags` meets its contract: after i turns the first i tags are written. Assumes nothing.
+use mathlib.Core.Path.{_≡_, refl, _∙_}
+use Prim.Native.Nat.{_-_, _≤_}
+use native.Mathlib.Omega.{arith}
+use borrow.Author.Needs.{needs}
+use lib.ListN.{length, take}
+use Rattle.image.specs.Bytes.{packed, written}
+use Rattle.image.specs.WrittenLaws.{written-none, packed-on}
+use Rattle.image.proofs.put_tags.Statement.{statement}
+use Rattle.image.proofs.put_tags.Tie as tie
+
+abbrev Inv-loop : tie.InvT-loop
+Inv-loop s₀ at tags n i₀ s i = (i ≤ n) × (length s ≡ length s₀) × (s ≡ written s₀ at (packed 4 (take i tags)))
+
+abbrev μ-loop : tie.MeasureT-loop
+μ-loop s₀ at tags n i₀ s i = n - i
+
+loop-holds : tie.Need-loop-holds Inv-loop μ-loop
+unfolding packed
+loop-holds c = (omega arith, refl, written-none _ _)
+
+mul-put4 : tie.Need-mul-put4 Inv-loop μ-loop
+mul-put4 c = omega arith
+
+add-put4 : tie.Need-add-put4 Inv-loop μ-loop
+add-put4 c = omega arith
+
+mul-put4-2 : tie.Need-mul-put4-2 Inv-loop μ-loop
+mul-put4-2 c = omega arith
+
+shared-slice-read-put4 : tie.Need-shared-slice-read-put4 Inv-loop μ-loop
+shared-slice-read-put4 c = omega arith
+
+cast-put4 : tie.Need-cast-put4 Inv-loop μ-loop
+cast-put4 c = omega (arith, c .shared-slice-known2 .given (c .before .before .before .loop .i))
+
+put4-requires : tie.Need-put4-requires Inv-loop μ-loop
+put4-requires c κs = omega arith
+
+add-i : tie.Need-add-i Inv-loop μ-loop
+add-i c = omega arith
+
+loop-less : tie.Need-loop-less Inv-loop μ-loop
+loop-less c = omega arith
+
+loop-again : tie.Need-loop-again Inv-loop μ-loop
+loop-again c =
+    let l = c .before .before .before .before .before .before .loop in
+    let p = c .before .before .put4 in
+    (omega arith, p .kept .0 ∙ l .inv .1, packed-on _ _ (omega arith) _ (l .i) (omega arith) 4 (l .inv .2) (p .ensures))
+
+same-length : tie.Need-same-length Inv-loop μ-loop
+same-length c = search needs
+
+returns : tie.Need-returns Inv-loop μ-loop
+returns c =
+    let l = c .before .loop in
+    let q : c .before .before .before .before .args .n ≡ l .i = omega arith in
+    rw q (l .inv .2)
+
+pub put-tags-spec : {M : Type 1} → statement M
+put-tags-spec =
+    tie.close
+    (tie.spec
+    Inv-loop
+    μ-loop
+    loop-holds
+    mul-put4
+    add-put4
+    mul-put4-2
+    shared-slice-read-put4
+    cast-put4
+    put4-requires
+    add-i
+    loop-less
+    loop-again
+    same-length
+    returns)

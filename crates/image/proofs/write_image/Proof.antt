@@ -1,0 +1,94 @@
+-- `image::write_image` meets its contract: the parts are written one behind the other. Assumes nothing.
+use mathlib.Core.Path.{_≡_, refl, _∙_}
+use mathlib.Core.List.{List, _++_, append-assoc}
+use Prim.Native.Nat.{ℕ, _+_, _*_}
+use native.Mathlib.Omega.{arith}
+use borrow.Author.Needs.{needs}
+use lib.ListN.{length, length-append}
+use lib.Seq.{length-take-le}
+use Rattle.image.specs.Bytes.{leBytes, packed, written}
+use Rattle.image.specs.Encode.{imageOf}
+use Rattle.image.specs.BytesLaws.{length-packed}
+use Rattle.image.specs.WrittenLaws.{written-then}
+use Rattle.image.proofs.write_image.Statement.{statement}
+use Rattle.image.proofs.write_image.Tie as tie
+
+put2-requires : tie.Need-put2-requires
+put2-requires c κs = search needs
+
+put2-requires-2 : tie.Need-put2-requires-2
+put2-requires-2 c κs = search needs
+
+put-tags-requires : tie.Need-put-tags-requires
+put-tags-requires c κs = search needs
+
+mul-put-args : tie.Need-mul-put-args
+mul-put-args c = search needs
+
+add-put-args : tie.Need-add-put-args
+add-put-args c = search needs
+
+put-args-requires : tie.Need-put-args-requires
+put-args-requires c κs = search needs
+
+mul-put-names : tie.Need-mul-put-names
+mul-put-names c = search needs
+
+add-put-names : tie.Need-add-put-names
+add-put-names c = search needs
+
+put-names-requires : tie.Need-put-names-requires
+put-names-requires c κs = search needs
+
+mul-result : tie.Need-mul-result
+mul-result c = search needs
+
+add-result : tie.Need-add-result
+add-result c = search needs
+
+add-result-2 : tie.Need-add-result-2
+add-result-2 c = search needs
+
+same-length : tie.Need-same-length
+same-length c = search needs
+
+-- the five parts, where n tags, n arguments and m name bytes are written
+parts : {s₁ s₂ s₃ s₄ s₅ : List ℕ} {n m : ℕ} (s ts xs ws : List ℕ) → length ts ≡ n → length xs ≡ n → length ws ≡ m → s₁ ≡ written s 0 (leBytes 2 n) → s₂ ≡ written s₁ 2 (leBytes 2 m) → s₃ ≡ written s₂ 4 (packed 4 ts) → s₄ ≡ written s₃ (4 + 4 * n) (packed 8 xs) → s₅ ≡ written s₄ (4 + 12 * n) ws → s₅ ≡ written s 0 (imageOf n ts xs ws)
+unfolding imageOf
+parts {n} {m} s ts xs ws lt lx lw e₁ f₂ f₃ f₄ f₅ =
+    let a = leBytes 2 n in
+    let b = leBytes 2 m in
+    let e₂ = written-then s 0 (omega arith) a b 2 refl e₁ f₂ in
+    let e₃ = written-then s 0 (omega arith) (a ++ b) (packed 4 ts) 4 refl e₂ f₃ in
+    let e₄ = written-then s 0 (omega arith) (a ++ b ++ packed 4 ts) (packed 8 xs) (4 + 4 * n) (simp length-packed (omega arith)) e₃ f₄ in
+    let e₅ = written-then s 0 (omega arith) (a ++ b ++ packed 4 ts ++ packed 8 xs) ws (4 + 12 * n) (simp (length-append, length-packed) (omega arith)) e₄ f₅ in
+    e₅ ∙ simp (append-assoc, lw)
+
+returns : tie.Need-returns
+returns c =
+    let p₅ = c .before .before in
+    let p₄ = p₅ .before .before .before .before in
+    let p₃ = p₄ .before .before .before .before in
+    let p₂ = p₃ .before .before .before .before in
+    let p₁ = p₂ .before .before .before .before in
+    let h = p₁ .before .before .before .before .before .before .pre in
+    (refl, parts _ _ _ _ (length-take-le _ _ (h .0)) (length-take-le _ _ (h .1 .0)) (length-take-le _ _ (h .1 .1 .0)) (p₁ .put2 .ensures) (p₂ .put22 .ensures) (p₃ .put-tags .ensures) (p₄ .put-args .ensures) (p₅ .put-names .ensures))
+
+pub write-image-spec : {M : Type 1} → statement M
+write-image-spec =
+    tie.close
+    (tie.spec
+    put2-requires
+    put2-requires-2
+    put-tags-requires
+    mul-put-args
+    add-put-args
+    put-args-requires
+    mul-put-names
+    add-put-names
+    put-names-requires
+    mul-result
+    add-result
+    add-result-2
+    same-length
+    returns)

@@ -1,0 +1,33 @@
+-- "Numbers little-endian". Assumes nothing.
+use Prim.Native.Nat.{ℕ, zero, suc, _+_, _*_, _/_, _%_, _<_}
+use mathlib.Core.List.{List, [], _∷_, _++_}
+use lib.ListN.{length, getD, take, drop}
+
+-- a list of bytes
+abbrev pub AllBytes : List ℕ → Type 0
+AllBytes s = (i : ℕ) → getD s i 0 < 256
+
+-- a number in k bytes, the lowest first
+unfoldable pub leBytes : ℕ → ℕ → List ℕ
+leBytes zero x = []
+leBytes (suc k) x = x % 256 ∷ leBytes k (x / 256)
+
+-- numbers in k bytes each, one behind the other
+unfoldable pub packed : ℕ → List ℕ → List ℕ
+unfolding leBytes
+packed k [] = []
+packed k (x ∷ xs) = leBytes k x ++ packed k xs
+
+-- the number that bytes make
+unfoldable pub leNumber : List ℕ → ℕ
+leNumber [] = 0
+leNumber (b ∷ bs) = b + 256 * leNumber bs
+
+-- the number that the k bytes from a position make
+unfoldable pub leAt : List ℕ → ℕ → ℕ → ℕ
+unfolding leNumber
+leAt s at k = leNumber (take k (drop at s))
+
+-- a list with other elements written over its own, from a position on
+unfoldable pub written : List ℕ → ℕ → List ℕ → List ℕ
+written s at bs = take at s ++ (bs ++ drop (at + length bs) s)

@@ -1,0 +1,11 @@
+pub mod Rule
+pub mod Bytes
+pub mod BytesLaws
+pub mod ByteReadLaws
+pub mod WrittenLaws
+pub mod Encode
+pub mod EncodeLaws
+pub mod Decode
+pub mod BuildLaws
+pub mod RoundTripLaws
+pub mod DecodeLaws
