@@ -3,7 +3,7 @@
 use mathlib.Core.Path.{_≡_, _∙_}
 use mathlib.Core.List.{List, [], _∷_, _++_, append-assoc}
 use Prim.Native.Nat.{ℕ, _+_, _*_, _/_, _^_, _≤_, _<_}
-use native.Mathlib.Nat.{add-assoc, add-zero}
+use native.Mathlib.Nat.{add-assoc, add-zero, zero-add}
 use native.Mathlib.Numerals.{add-one}
 use native.Mathlib.Omega.{arith}
 use lib.ListN.{length, getD, set, take, drop, length-append, take-append-drop}
@@ -15,6 +15,11 @@ use Rattle.image.specs.ByteReadLaws.{bytes-join, packed-more}
 pub written-none : (s : List ℕ) (at : ℕ) → s ≡ written s at []
 unfolding written
 written-none s at = rw (add-zero, take-append-drop)
+
+-- at the front
+pub written-front : (s v : List ℕ) → written s 0 v ≡ v ++ drop (length v) s
+unfolding written
+written-front s v = rw zero-add
 
 -- stores from a position on
 pub written-sets : (s : List ℕ) (at : ℕ) (v : List ℕ) → at + length v ≤ length s → sets s at v ≡ written s at v

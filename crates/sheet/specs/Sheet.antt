@@ -1,5 +1,5 @@
--- Worked examples of tokens, counts and durations, held together as one table and proved by one statement over all of its
--- rows. Assumes nothing.
+-- Worked examples of tokens, counts, durations and reading, held together as one table and proved by one statement over all of
+-- its rows. Assumes nothing.
 use mathlib.Core.Path.{_≡_, refl}
 use mathlib.Core.Bool.{true, false}
 use mathlib.Core.List.{List, [], _∷_, map, List·Memᴰ, List·Memᴰ·head, List·Memᴰ·tail}
@@ -8,28 +8,41 @@ use Prim.Native.String.{String}
 use Rattle.ascii.specs.Text.{bytes, part, run, runEnd}
 use Rattle.ascii.specs.Letters.{lower, equalBy}
 use Rattle.classes.specs.Class.{classOf, ofClass}
-use Rattle.refusals.specs.Refusals.{refusal, halfSign, openQuote, strayCharacter}
+use Rattle.refusals.specs.declared.Refusal.{Refusal}
+use Rattle.refusals.specs.Refusals.{refusal, halfSign, openQuote, strayCharacter, noExpression, openBracket, trailingToken, unknownFunction, missingArgument, badCount, badDuration, emptyList}
 use Rattle.words.specs.declared.Token.{Token}
 use Rattle.words.specs.declared.Token.the-variants.{End, Open, Close, Comma, And, Or, Word, Fault}
 use Rattle.words.specs.declared.Scanned.{Scanned}
 use Rattle.words.specs.declared.Scanned.the-variants.{Clean, Refused}
-use Rattle.words.specs.Token.{other, doubled, quotedTo, quotedAt, bareTo, bareAt, tokenOf, startAt, tokenAt, nextOf, tokensBy, tokensFrom, scanOf}
+use Rattle.words.specs.Token.{ascii, placeOf, other, doubled, quotedTo, quotedAt, bareTo, bareAt, tokenOf, startAt, tokenAt, nextOf, tokensBy, tokensFrom, scanOf}
 use Rattle.numbers.specs.declared.Parsed.{Parsed}
 use Rattle.numbers.specs.declared.Parsed.the-variants.{Value, Invalid}
 use Rattle.numbers.specs.Count.{countOf}
 use Rattle.numbers.specs.Duration.{durationOf}
+use Rattle.image.specs.Rule.{Leaf, named, olderThan, readable, Join, atLeast, all, any, Rule, leaf, node, Rules, nil, more, size}
+use Rattle.grammar.specs.Grammar.{after, firstPlace, dueIn, olderThanHead, readableHead, atLeastHead, functionOf, bareLeaf, headIn, leftRules, chain, orIn}
+use Rattle.grammar.specs.Reading.{Read, rule, refused, parseOf, readOf}
 
--- a row: a text, and its tokens, its first fault, or the number that it is as a count or as a duration
+-- a row: a text, and its tokens, its first fault, the number that it is as a count or as a duration, the rule that it reads as
+-- with how many nodes that has, or the refusal of reading it, its number and its place
 pub data Row : Type 0 where
   tokens : String → List Token → Row
   scan : String → Scanned → Row
   count : String → Parsed → Row
   duration : String → Parsed → Row
+  reads : String → Rule → ℕ → Row
+  refuses : String → ℕ → ℕ → Row
 
 pub data Answer : Type 0 where
   tokenList : List Token → Answer
   scanned : Scanned → Answer
   parsed : Parsed → Answer
+  aRule : Rule → ℕ → Answer
+  aRefusal : Refusal → Answer
+
+abbrev pub readAnswer : Read → Answer
+readAnswer (rule r) = aRule r (size r)
+readAnswer (refused f) = aRefusal f
 
 -- what the definitions give for a row's text
 unfoldable pub answerOf : Row → Answer
@@ -37,6 +50,8 @@ answerOf (tokens t ts) = tokenList (tokensFrom (bytes t) 0)
 answerOf (scan t r) = scanned (scanOf (tokensFrom (bytes t) 0))
 answerOf (count t n) = parsed (countOf (bytes t))
 answerOf (duration t n) = parsed (durationOf (bytes t))
+answerOf (reads t r n) = readAnswer (readOf (bytes t))
+answerOf (refuses t n p) = readAnswer (readOf (bytes t))
 
 -- what the row says
 unfoldable pub expected : Row → Answer
@@ -44,6 +59,8 @@ expected (tokens t ts) = tokenList ts
 expected (scan t r) = scanned r
 expected (count t n) = parsed n
 expected (duration t n) = parsed n
+expected (reads t r n) = aRule r n
+expected (refuses t n p) = aRefusal (refusal n p)
 
 -- a bare word and a quoted one, from its place up to where the text goes on
 abbrev bare : ℕ → ℕ → Token
@@ -51,6 +68,16 @@ bare p n = Word p p n false n
 
 abbrev fault : ℕ → ℕ → Token
 fault n p = Fault (refusal n p)
+
+-- rules: a name, and a combinator over two rules or three
+abbrev name : String → Rule
+name w = leaf (named (bytes w))
+
+abbrev two : Join → Rule → Rule → Rule
+two j q r = node j (more nil q) r
+
+abbrev three : Join → Rule → Rule → Rule → Rule
+three j p q r = node j (more (more nil p) q) r
 
 abbrev pub rows : List Row
 rows =
@@ -99,11 +126,42 @@ rows =
     duration "30D" Invalid ∷
     duration "30" Invalid ∷
     duration "" Invalid ∷
+    reads "a && b || c" (two any (two all (name "a") (name "b")) (name "c")) 5 ∷
+    reads "a && (b && c)" (two all (name "a") (two all (name "b") (name "c"))) 5 ∷
+    reads "(a && b) && c" (three all (name "a") (name "b") (name "c")) 4 ∷
+    reads "any(a,b) || c" (three any (name "a") (name "b") (name "c")) 4 ∷
+    reads "c || any(a,b)" (two any (name "c") (two any (name "a") (name "b"))) 5 ∷
+    reads "at_least(1,a) || b" (two any (node (atLeast 1) nil (name "a")) (name "b")) 4 ∷
+    reads "older_than(30d) && readable(1)" (two all (leaf (olderThan 2_592_000_000)) (leaf (readable 1))) 3 ∷
+    reads "older_than(\"1h 30m\")" (leaf (olderThan 5_400_000)) 1 ∷
+    reads "'READABLE'" (leaf (readable 1)) 1 ∷
+    reads "at_least(2, nas, vault)" (two (atLeast 2) (name "nas") (name "vault")) 3 ∷
+    refuses "any(a,)" noExpression 6 ∷
+    refuses "any()" emptyList 0 ∷
+    refuses "" noExpression 0 ∷
+    refuses "older_than(1h 30m)" openBracket 14 ∷
+    refuses "readable(x" badCount 9 ∷
+    refuses "older_than(x" openBracket 12 ∷
+    refuses "older_than(x y" openBracket 13 ∷
+    refuses ") a &" halfSign 4 ∷
+    refuses "a'b'" trailingToken 1 ∷
+    refuses "any(a,any())" emptyList 6 ∷
+    refuses "any( " noExpression 5 ∷
+    refuses "and(a)" noExpression 0 ∷
+    refuses "'and'(a)" unknownFunction 0 ∷
+    refuses "a (b)" unknownFunction 0 ∷
+    refuses "at_least(2)" missingArgument 10 ∷
+    refuses "at_least(2,)" emptyList 0 ∷
+    refuses "at_least(2, " noExpression 12 ∷
+    refuses "older_than()" missingArgument 11 ∷
+    refuses "older_than(30D)" badDuration 11 ∷
+    refuses "(a,b)" openBracket 2 ∷
+    refuses "()" noExpression 1 ∷
     []
 
 -- by computation, over all rows at once
 rows-computed : map answerOf rows ≡ map expected rows
-unfolding answerOf expected run runEnd part lower equalBy classOf ofClass other doubled quotedTo quotedAt bareTo bareAt tokenOf startAt tokenAt nextOf tokensBy tokensFrom scanOf countOf durationOf
+unfolding answerOf expected run runEnd part lower equalBy classOf ofClass other doubled quotedTo quotedAt bareTo bareAt tokenOf startAt tokenAt nextOf tokensBy tokensFrom scanOf countOf durationOf ascii placeOf size after firstPlace dueIn olderThanHead readableHead atLeastHead functionOf bareLeaf headIn leftRules chain orIn parseOf readOf
 rows-computed = refl
 
 -- each row holds

@@ -1,0 +1,129 @@
+-- `grammar::at_least_head` meets its contract: by the word that is due, its count and the comma behind it. Assumes nothing.
+use mathlib.Core.Path.{refl, sym, _∙_}
+use native.Mathlib.Omega.{arith}
+use Rattle.words.specs.Token.{nextOf}
+use Rattle.numbers.specs.Count.{countOf}
+use Rattle.grammar.specs.Grammar.{commaSign, atLeastHead}
+use Rattle.grammar.specs.TokenListLaws.{first-place, after-on, word-due, word-part, steps}
+use Rattle.grammar.specs.HeadLaws.{begins-refused, begins-list, told}
+use Rattle.grammar.proofs.Tags.{no-word, no-sign}
+use borrow.Author.Needs.{needs}
+use Rattle.grammar.proofs.at_least_head.Statement.{statement}
+use Rattle.grammar.proofs.at_least_head.Tie as tie
+
+token-at-requires : tie.Need-token-at-requires
+token-at-requires c κs = search needs
+
+enum-known-t : tie.Need-enum-known-t
+enum-known-t c = search needs
+
+place-of-requires : tie.Need-place-of-requires
+place-of-requires c κs = search needs
+
+refuse-requires : tie.Need-refuse-requires
+refuse-requires c κs = search needs
+
+returns : tie.Need-returns
+unfolding atLeastHead
+returns c =
+    let m = c .before .before in
+    begins-refused (c .refuse .ensures) (c .before .place-of .ensures)
+    (rw (no-word _ _ (m .before .token-at .ensures) (m .match .keys2)))
+
+word-of-requires : tie.Need-word-of-requires
+word-of-requires c κs =
+    let t = c .before in
+    let w = word-part _ _ (sym (t .before .before .token-at .ensures) ∙ t .t .given .1) in
+    omega arith
+
+parse-count-requires : tie.Need-parse-count-requires
+parse-count-requires c κs = search needs
+
+enum-known-count : tie.Need-enum-known-count
+enum-known-count c = search needs
+
+enum-told : tie.Need-enum-told
+enum-told c = search needs
+
+refuse-requires-2 : tie.Need-refuse-requires-2
+refuse-requires-2 c κs = search needs
+
+returns-2 : tie.Need-returns-2
+unfolding atLeastHead
+returns-2 c =
+    let d = c .before .before .before in
+    let t = d .before .before .before in
+    begins-refused (c .refuse2 .ensures) refl
+    (rw (
+      word-due _ _ (sym (t .before .before .token-at .ensures) ∙ t .t .given .1),
+      told countOf (d .before .word-of .ensures) (d .parse-count .ensures) (c .before .enum-told .given .1),
+    ))
+
+token-at-requires-2 : tie.Need-token-at-requires-2
+token-at-requires-2 c κs = search needs
+
+enum-known-comma : tie.Need-enum-known-comma
+enum-known-comma c = search needs
+
+place-of-requires-2 : tie.Need-place-of-requires-2
+place-of-requires-2 c κs = search needs
+
+refuse-requires-3 : tie.Need-refuse-requires-3
+refuse-requires-3 c κs = search needs
+
+returns-3 : tie.Need-returns-3
+unfolding atLeastHead
+returns-3 c =
+    let m = c .before .before in
+    let n = m .before .before .before in
+    let d = n .before .before in
+    let t = d .before .before .before in
+    let next = m .before .token-at2 .ensures in
+    begins-refused (c .refuse3 .ensures) (c .before .place-of2 .ensures)
+    (rw (
+      word-due _ _ (sym (t .before .before .token-at .ensures) ∙ t .t .given .1),
+      told countOf (d .before .word-of .ensures) (d .parse-count .ensures) (n .count .given .1),
+      no-sign _ _ next commaSign tt (m .match3 .keys2),
+      first-place _ _ (sym next),
+    ))
+
+returns-4 : tie.Need-returns-4
+unfolding atLeastHead nextOf
+returns-4 c =
+    let u = c .before in
+    let n = u .before .before .before .before in
+    let d = n .before .before in
+    let t = d .before .before .before in
+    let word = sym (t .before .before .token-at .ensures) ∙ t .t .given .1 in
+    let next = sym (u .before .before .token-at2 .ensures) ∙ u .comma .given .1 in
+    let first = steps _ _ word refl in
+    let second = steps _ _ next refl in
+    begins-list
+    (rw (
+      word-due _ _ word,
+      told countOf (d .before .word-of .ensures) (d .parse-count .ensures) (n .count .given .1),
+      after-on _ _ next refl commaSign refl,
+    ))
+    (omega arith)
+
+pub at-least-head-spec : {M : Type 1} → statement M
+at-least-head-spec =
+    tie.close
+    (tie.spec
+    token-at-requires
+    enum-known-t
+    place-of-requires
+    refuse-requires
+    returns
+    word-of-requires
+    parse-count-requires
+    enum-known-count
+    enum-told
+    refuse-requires-2
+    returns-2
+    token-at-requires-2
+    enum-known-comma
+    place-of-requires-2
+    refuse-requires-3
+    returns-3
+    returns-4)

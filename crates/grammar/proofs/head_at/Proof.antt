@@ -1,0 +1,80 @@
+-- `grammar::head_at` meets its contract: by the token that stands there. Assumes nothing.
+use mathlib.Core.Path.{refl, sym, _∙_}
+use native.Mathlib.Omega.{arith}
+use borrow.Author.Tests.{lt-ltb, le-ltb}
+use Rattle.words.specs.Token.{nextOf}
+use Rattle.grammar.specs.TokenListLaws.{word-part, steps}
+use Rattle.grammar.specs.HeadLaws.{begins-group, begins-refused, begins-within, head-next}
+use Rattle.grammar.proofs.Tags.{no-primary}
+use borrow.Author.Needs.{needs}
+use Rattle.grammar.proofs.head_at.Statement.{statement}
+use Rattle.grammar.proofs.head_at.Tie as tie
+
+token-at-requires : tie.Need-token-at-requires
+token-at-requires c κs = search needs
+
+enum-known-t : tie.Need-enum-known-t
+enum-known-t c = search needs
+
+word-head-requires : tie.Need-word-head-requires
+word-head-requires c κs =
+    let t = c .before in
+    let w = word-part _ _ (sym (t .before .before .token-at .ensures) ∙ t .t .given .1) in
+    omega arith
+
+enum-known-t-2 : tie.Need-enum-known-t-2
+enum-known-t-2 c = search needs
+
+refuse-requires : tie.Need-refuse-requires
+refuse-requires c κs = search needs
+
+returns : tie.Need-returns
+unfolding nextOf
+returns c =
+    let t = c .before .before .before in
+    begins-refused (c .refuse .ensures) refl
+    (rw (head-next _ _ _ (sym (t .before .before .token-at .ensures) ∙ t .t2 .given .1) refl, le-ltb _ 64 (c .before .if1 .taken)))
+
+place-of-requires : tie.Need-place-of-requires
+place-of-requires c κs = search needs
+
+refuse-requires-2 : tie.Need-refuse-requires-2
+refuse-requires-2 c κs = search needs
+
+returns-2 : tie.Need-returns-2
+unfolding nextOf
+returns-2 c =
+    let t = c .before .before in
+    let word = sym (t .before .before .token-at .ensures) ∙ t .t .given .1 in
+    let lies = word-part _ _ word in
+    let behind = steps _ _ word refl in
+    rw (head-next _ _ _ word refl) (begins-within (c .word-head .ensures) (omega arith) (omega arith) (omega arith))
+
+returns-3 : tie.Need-returns-3
+unfolding nextOf
+returns-3 c =
+    let t = c .before .before in
+    let opening = sym (t .before .before .token-at .ensures) ∙ t .t2 .given .1 in
+    let inside = steps _ _ opening refl in
+    begins-group (rw (head-next _ _ _ opening refl, lt-ltb _ 64 (c .if1 .left))) (omega arith)
+
+returns-4 : tie.Need-returns-4
+returns-4 c =
+    let m = c .before .before in
+    begins-refused (c .refuse2 .ensures) (c .before .place-of .ensures) (no-primary _ _ (m .before .token-at .ensures) _ (m .match .keys3))
+
+pub head-at-spec : {M : Type 1} → statement M
+head-at-spec =
+    tie.close
+    (tie.spec
+    token-at-requires
+    enum-known-t
+    word-head-requires
+    enum-known-t-2
+    refuse-requires
+    returns
+    place-of-requires
+    refuse-requires-2
+    returns-2
+    returns-3
+    returns-4)

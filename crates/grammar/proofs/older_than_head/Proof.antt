@@ -1,0 +1,127 @@
+-- `grammar::older_than_head` meets its contract: by the word that is due, the bracket behind it and the duration. Assumes nothing.
+use mathlib.Core.Path.{refl, sym, _∙_}
+use native.Mathlib.Omega.{arith}
+use Rattle.words.specs.Token.{nextOf}
+use Rattle.numbers.specs.Duration.{durationOf}
+use Rattle.grammar.specs.Grammar.{closeSign, olderThanHead}
+use Rattle.grammar.specs.TokenListLaws.{first-place, after-on, word-due, word-part, steps}
+use Rattle.grammar.specs.HeadLaws.{begins-refused, begins-leaf, told}
+use Rattle.grammar.proofs.Tags.{no-word, no-sign}
+use borrow.Author.Needs.{needs}
+use Rattle.grammar.proofs.older_than_head.Statement.{statement}
+use Rattle.grammar.proofs.older_than_head.Tie as tie
+
+token-at-requires : tie.Need-token-at-requires
+token-at-requires c κs = search needs
+
+enum-known-t : tie.Need-enum-known-t
+enum-known-t c = search needs
+
+place-of-requires : tie.Need-place-of-requires
+place-of-requires c κs = search needs
+
+refuse-requires : tie.Need-refuse-requires
+refuse-requires c κs = search needs
+
+returns : tie.Need-returns
+unfolding olderThanHead
+returns c =
+    let m = c .before .before in
+    begins-refused (c .refuse .ensures) (c .before .place-of .ensures)
+    (rw (no-word _ _ (m .before .token-at .ensures) (m .match .keys2)))
+
+token-at-requires-2 : tie.Need-token-at-requires-2
+token-at-requires-2 c κs = search needs
+
+enum-known-bracket : tie.Need-enum-known-bracket
+enum-known-bracket c = search needs
+
+place-of-requires-2 : tie.Need-place-of-requires-2
+place-of-requires-2 c κs = search needs
+
+refuse-requires-2 : tie.Need-refuse-requires-2
+refuse-requires-2 c κs = search needs
+
+returns-2 : tie.Need-returns-2
+unfolding olderThanHead
+returns-2 c =
+    let m = c .before .before in
+    let t = m .before .before .before in
+    let bracket = m .before .token-at2 .ensures in
+    begins-refused (c .refuse2 .ensures) (c .before .place-of2 .ensures)
+    (rw (
+      word-due _ _ (sym (t .before .before .token-at .ensures) ∙ t .t .given .1),
+      no-sign _ _ bracket closeSign tt (m .match2 .keys2),
+      first-place _ _ (sym bracket),
+    ))
+
+word-of-requires : tie.Need-word-of-requires
+word-of-requires c κs =
+    let t = c .before .before .before .before .before in
+    let w = word-part _ _ (sym (t .before .before .token-at .ensures) ∙ t .t .given .1) in
+    omega arith
+
+parse-duration-requires : tie.Need-parse-duration-requires
+parse-duration-requires c κs = search needs
+
+enum-known-milliseconds : tie.Need-enum-known-milliseconds
+enum-known-milliseconds c = search needs
+
+enum-told : tie.Need-enum-told
+enum-told c = search needs
+
+refuse-requires-3 : tie.Need-refuse-requires-3
+refuse-requires-3 c κs = search needs
+
+returns-3 : tie.Need-returns-3
+unfolding olderThanHead nextOf
+returns-3 c =
+    let d = c .before .before .before in
+    let u = d .before .before .before in
+    let t = u .before .before .before .before in
+    let word = sym (t .before .before .token-at .ensures) ∙ t .t .given .1 in
+    let bracket = sym (u .before .before .token-at2 .ensures) ∙ u .bracket .given .1 in
+    let first = steps _ _ word refl in
+    let second = steps _ _ bracket refl in
+    begins-leaf
+    (rw (
+      word-due _ _ word,
+      after-on _ _ bracket refl closeSign refl,
+      told durationOf (d .before .word-of .ensures) (d .parse-duration .ensures) (c .before .milliseconds .given .1),
+    ))
+    (omega arith)
+
+returns-4 : tie.Need-returns-4
+unfolding olderThanHead nextOf
+returns-4 c =
+    let d = c .before .before .before in
+    let u = d .before .before .before in
+    let t = u .before .before .before .before in
+    begins-refused (c .refuse3 .ensures) refl
+    (rw (
+      word-due _ _ (sym (t .before .before .token-at .ensures) ∙ t .t .given .1),
+      after-on _ _ (sym (u .before .before .token-at2 .ensures) ∙ u .bracket .given .1) refl closeSign refl,
+      told durationOf (d .before .word-of .ensures) (d .parse-duration .ensures) (c .before .enum-told .given .1),
+    ))
+
+pub older-than-head-spec : {M : Type 1} → statement M
+older-than-head-spec =
+    tie.close
+    (tie.spec
+    token-at-requires
+    enum-known-t
+    place-of-requires
+    refuse-requires
+    returns
+    token-at-requires-2
+    enum-known-bracket
+    place-of-requires-2
+    refuse-requires-2
+    returns-2
+    word-of-requires
+    parse-duration-requires
+    enum-known-milliseconds
+    enum-told
+    refuse-requires-3
+    returns-3
+    returns-4)
