@@ -1,0 +1,158 @@
+// The call `read`: `read TEXT BUFFER no NUMBER PLACE`, or `read TEXT BUFFER ok IMAGE`, the text and the image in hex.
+use crate::fields::Found;
+use crate::fields::blanks;
+use crate::fields::decimal;
+use crate::fields::field;
+use crate::fields::unhex;
+use crate::outcome::Answer;
+use crate::outcome::Outcome;
+use expressions::Reading;
+
+// Fills memory with a pattern, so that every byte written can be told from one left alone.
+fn fill(memory: &mut [u8]) {
+    let mut i = 0;
+    while i < memory.len() {
+        memory[i] = ((i % 256 * 7 + 13) % 256) as u8;
+        i += 1;
+    }
+}
+
+// The first place where two memories of one length differ, or the length.
+fn first_difference(a: &[u8], b: &[u8]) -> usize {
+    let mut i = 0;
+    while i < a.len() && i < b.len() {
+        if a[i] != b[i] {
+            return i;
+        }
+        i += 1;
+    }
+    i
+}
+
+// The answer that a line expects, or nothing where it is not in the format.
+enum Wanted {
+    Answer(Answer),
+    Nothing,
+}
+
+// A refusal: its number and its place.
+fn expected_refusal(line: &[u8]) -> Wanted {
+    if blanks(line) != 5 {
+        return Wanted::Nothing;
+    }
+    let Found::Number(number) = decimal(field(line, 4)) else {
+        return Wanted::Nothing;
+    };
+    let Found::Number(place) = decimal(field(line, 5)) else {
+        return Wanted::Nothing;
+    };
+    if number == 0 {
+        return Wanted::Nothing;
+    }
+    Wanted::Answer(Answer {
+        number: number as u64,
+        value: place as u64,
+    })
+}
+
+// An image: its length, and its bytes at the front of the memory that is wanted.
+fn expected_image(line: &[u8], wanted: &mut [u8]) -> Wanted {
+    if blanks(line) != 4 {
+        return Wanted::Nothing;
+    }
+    let Found::Number(size) = unhex(field(line, 4), wanted) else {
+        return Wanted::Nothing;
+    };
+    Wanted::Answer(Answer {
+        number: 0,
+        value: size as u64,
+    })
+}
+
+// The answer that a line expects. The memory that is wanted holds the pattern, and an image is written over it.
+fn expected(line: &[u8], wanted: &mut [u8]) -> Wanted {
+    let word = field(line, 3);
+    if ascii::eq(word, b"no") {
+        return expected_refusal(line);
+    }
+    if ascii::eq(word, b"ok") {
+        return expected_image(line, wanted);
+    }
+    Wanted::Nothing
+}
+
+// The text of a line, at the front of a buffer.
+fn text_of(word: &[u8], text: &mut [u8]) -> Found {
+    if ascii::eq(word, b"-") {
+        return Found::Number(0);
+    }
+    if word.len() == 0 {
+        return Found::Nothing;
+    }
+    unhex(word, text)
+}
+
+// The bytes at the front, as many as asked and no more than there are.
+fn front(s: &[u8], size: usize) -> &[u8] {
+    if size < s.len() {
+        return &s[0..size];
+    }
+    s
+}
+
+// The same of memory to be written.
+fn front_mut(s: &mut [u8], size: usize) -> &mut [u8] {
+    if size < s.len() {
+        return &mut s[0..size];
+    }
+    s
+}
+
+// What reading a text of that size into a buffer of that length answers.
+fn answered(text: &[u8], size: usize, memory: &mut [u8], room: usize) -> Answer {
+    match expressions::read(front(text, size), front_mut(memory, room)) {
+        Reading::Read(length) => Answer {
+            number: 0,
+            value: length as u64,
+        },
+        Reading::Refused(f) => Answer {
+            number: f.number as u64,
+            value: f.place as u64,
+        },
+    }
+}
+
+// Reads a text into a buffer of that length at the front of a memory, and compares the answer and every byte of the memory.
+fn compare(text: &[u8], size: usize, room: usize, wanted: &[u8], hoped: Answer) -> Outcome {
+    let mut memory = [0u8; 30000];
+    fill(&mut memory);
+    let answer = answered(text, size, &mut memory, room);
+    let agree = first_difference(&memory, wanted);
+    if answer.number == hoped.number && answer.value == hoped.value && agree == 30000 {
+        return Outcome::Agrees;
+    }
+    Outcome::Differs {
+        answer,
+        agree: agree as u64,
+    }
+}
+
+// Runs the case on a line.
+pub fn run(line: &[u8]) -> Outcome {
+    let mut text = [0u8; 32768];
+    let Found::Number(size) = text_of(field(line, 1), &mut text) else {
+        return Outcome::Unreadable;
+    };
+    let Found::Number(room) = decimal(field(line, 2)) else {
+        return Outcome::Unreadable;
+    };
+    if room > 30000 {
+        return Outcome::Unreadable;
+    }
+    let mut wanted = [0u8; 30000];
+    fill(&mut wanted);
+    let Wanted::Answer(hoped) = expected(line, &mut wanted) else {
+        return Outcome::Unreadable;
+    };
+    compare(&text, size, room, &wanted, hoped)
+}
