@@ -29,12 +29,12 @@ unfoldable pub chain : Rules → Rules → Rules
 chain ps nil = ps
 chain ps (more rs r) = more (chain ps rs) r
 
-split-zero : (rs : Rules) → split rs 0 ≡ some (rs, nil)
+pub split-zero : (rs : Rules) → split rs 0 ≡ some (rs, nil)
 unfolding split
 split-zero nil = refl
 split-zero (more rs r) = refl
 
-split-more : (rs : Rules) (r : Rule) (m : ℕ) → 0 < m → size r ≤ m → split (more rs r) m ≡ bind (split rs (m - size r)) (λ p. some (p .0, more (p .1) r))
+pub split-more : (rs : Rules) (r : Rule) (m : ℕ) → 0 < m → size r ≤ m → split (more rs r) m ≡ bind (split rs (m - size r)) (λ p. some (p .0, more (p .1) r))
 unfolding split
 split-more rs r zero p h = absurd (omega arith)
 split-more rs r (suc m) p h = rw (le-leb (size r) (suc m) h)

@@ -17,6 +17,10 @@ abbrev pub bind {ℓ} : {A B : Type ℓ} → Option A → (A → Option B) → O
 bind none f = none
 bind (some a) f = f a
 
+abbrev pub isSome {ℓ} : {A : Type ℓ} → Option A → Bool
+isSome none = false
+isSome (some a) = true
+
 -- a node as it lies in the image
 pub record Node : Type 0 where
   pub kind : ℕ

@@ -1,15 +1,15 @@
 -- Bytes that are read as a rule are that rule's image, and the rule fits. Assumes nothing.
 use mathlib.Core.Path.{_≡_, refl, sym, ap}
-use mathlib.Core.Bool.{Bool, true, false, _&&_}
+use mathlib.Core.Bool.{true}
 use mathlib.Core.List.{List, [], _∷_, _++_, append-nil}
 use mathlib.Core.Option.{Option, none, some}
 use Prim.Native.Nat.{ℕ, zero, suc, _+_, _-_, _*_, _/_, _%_, _^_, _≤_, _<_}
 use native.Mathlib.Nat.{add-zero}
 use native.Mathlib.Omega.{arith}
-use lib.Dec.{leb, eqb}
+use lib.Dec.{eqb}
 use lib.ListN.{length, drop, length-append, length-drop}
 use lib.Seq.{length-take-le}
-use borrow.Author.Tests.{leb-true, eqb-true}
+use borrow.Author.Tests.{eqb-true}
 use Rattle.image.specs.Rule.{Leaf, Join, Rule, leaf, node, Rules, nil, more, size, sizes}
 use Rattle.image.specs.Bytes.{packed, leAt, AllBytes}
 use Rattle.image.specs.Encode.{leafKind, joinKind, tag, leafArg, joinArg, leafName, names, namesAll, tags, tagsAll, args, argsAll, encode, allAscii, Small, SmallAll, Fits}
@@ -17,6 +17,7 @@ use Rattle.image.specs.Decode.{nodeAt, Meaning, aLeaf, aJoin, nothing, m
 use Rattle.image.specs.BytesLaws.{Has, has-rest, at-number, number-below}
 use Rattle.image.specs.EncodeLaws.{size-pos, length-tags, length-tagsAll, length-args, length-argsAll, length-encode, Laid, laid-append, laid-image}
 use Rattle.image.specs.BuildLaws.{none-some, when-some, bind-some, chain, closed, sizes-close, names-close, tags-close, args-close, small-close}
+use Rattle.image.specs.TestLaws.{sized-true}
 
 -- names do not run backwards
 next-le : (k a t u : ℕ) → nextName k a t ≡ some u → t ≤ u
@@ -143,10 +144,6 @@ module _ (s : List ℕ) (n m : ℕ) (bytes : AllBytes s) (long : length s ≡ 4 
       place-taken i t u rs out (cellAt s n i .what) le (says (nodeAt s n i .kind) (nodeAt s n i .arg) t u short f₂) e₂ (taken i t rs (omega arith) (omega arith) e₁ f₁)
 
 -- the tests of a whole image
-both-true : (a b : Bool) → (a && b) ≡ true → (a ≡ true) × (b ≡ true)
-both-true true b e = (refl, e)
-both-true false b e = let z : _≡_ {A = ℕ} 0 1 = cc in absurd (omega arith)
-
 only-some : (rs : Rules) (r : Rule) → only rs ≡ some r → rs ≡ more nil r
 only-some nil r e = absurd (none-some e)
 only-some (more nil q) r e = cc
@@ -155,14 +152,6 @@ only-some (more (more rs p) q) r e = absurd (none-some e)
 ends-some : (o : Option ℕ) (m : ℕ) → endsAt o m ≡ true → o ≡ some m
 ends-some none m e = let z : _≡_ {A = ℕ} 0 1 = cc in absurd (omega arith)
 ends-some (some t) m e = ap some (eqb-true t m e)
-
-sized-true : (s : List ℕ) (n m : ℕ) → sized s n m ≡ true → (n ≤ 2048) × (m ≤ 2048) × (length s ≡ 4 + 12 * n + m)
-unfolding sized
-sized-true s n m e =
-    let (e₁, d) = both-true (leb 1 n && leb n 2048 && leb m 2048) _ e in
-    let (e₂, c) = both-true (leb 1 n && leb n 2048) _ e₁ in
-    let (a, b) = both-true (leb 1 n) _ e₂ in
-    (leb-true n 2048 b, leb-true m 2048 c, eqb-true (length s) (4 + 12 * n + m) d)
 
 -- what was read: its sizes, and its nodes and names at their places
 record Parts (s : List ℕ) (n m : ℕ) (r : Rule) : Type 0 where
@@ -187,7 +176,7 @@ parts s n m r bytes e =
     let (t₂, e₂) = when-some (allAscii (drop (4 + 12 * n) s)) _ e₁ in
     let (t₃, e₃) = when-some (endsAt (nameEnd (nodeAt s n) n) m) _ e₂ in
     let (rs, e₄, e₅) = bind-some (build (cellAt s n) n) only e₃ in
-    let (few, short, long) = sized-true s n m t₁ in
+    let (pos, few, short, long) = sized-true s n m t₁ in
     let h = taken s n m bytes long n m rs (omega arith) (omega arith) e₄ (ends-some (nameEnd (nodeAt s n) n) m t₃) in
     taken-parts s n m r bytes long few short t₂ (rw (only-some rs r e₅) at h)
 

@@ -7,5 +7,9 @@ pub mod Encode
 pub mod EncodeLaws
 pub mod Decode
 pub mod BuildLaws
+pub mod FitLaws
+pub mod NameRunLaws
+pub mod TestLaws
 pub mod RoundTripLaws
 pub mod DecodeLaws
+pub mod Valid

@@ -8,7 +8,7 @@ use native.Mathlib.Nat.{add-zero, zero-add}
 use native.Mathlib.Numerals.{add-one}
 use native.Mathlib.Omega.{arith}
 use lib.ListN.{length, drop, length-append}
-use borrow.Author.Tests.{eq-eqb, le-leb}
+use borrow.Author.Tests.{eq-eqb}
 use Rattle.image.specs.Rule.{Leaf, named, olderThan, readable, Join, atLeast, all, any, Rule, leaf, node, Rules, nil, more, size, sizes}
 use Rattle.image.specs.Bytes.{packed}
 use Rattle.image.specs.Encode.{leafKind, joinKind, tag, leafArg, joinArg, leafName, names, namesAll, tags, tagsAll, args, argsAll, encode, Small, SmallAll, Fits}
@@ -16,6 +16,7 @@ use Rattle.image.specs.Decode.{Node, nodeAt, aLeaf, aJoin, meaning, cell
 use Rattle.image.specs.BytesLaws.{Has, has-rest, number-at}
 use Rattle.image.specs.EncodeLaws.{size-pos, length-tagsAll, length-argsAll, length-encode, Laid, laid-cut, encode-laid}
 use Rattle.image.specs.BuildLaws.{chain, close-chain}
+use Rattle.image.specs.TestLaws.{true-sized}
 
 -- what a kind and an argument mean
 means-leaf : (s : List ℕ) (n t : ℕ) (l : Leaf) → length (leafName l) < 65536 → Has s (4 + 12 * n + t) (leafName l) → meaning s n (leafKind l) (leafArg l t) ≡ aLeaf l
@@ -143,8 +144,7 @@ module _ (r : Rule) (fits : Fits r) where
   names-at = has-rest (encode r) (names r) (4 + 12 * size r) (length-encode r) (rw add-zero at (encode-laid r .2 .names))
 
   is-sized : sized (encode r) (size r) (length (names r)) ≡ true
-  unfolding sized
-  is-sized = rw (le-leb 1 (size r) (size-pos r), le-leb (size r) 2048 (fits .nodes), le-leb (length (names r)) 2048 (fits .bytes), eq-eqb (length (encode r)) _ (length-encode r))
+  is-sized = true-sized (encode r) (size r) (length (names r)) (size-pos r) (fits .nodes) (fits .bytes) (length-encode r)
 
   parts : decodeParts (encode r) (size r) (length (names r)) ≡ some r
   unfolding decodeParts

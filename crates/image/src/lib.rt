@@ -1,4 +1,6 @@
-// The rule image: numbers of two, four and eight bytes, and an image written into a buffer.
+// The rule image: numbers of two, four and eight bytes, an image written into a buffer, and the test that bytes are an image.
+pub mod valid;
+
 ghost use mathlib.Core.Path.{_≡_};
 ghost use Prim.Native.Nat.{_+_, _*_, _^_, _≤_, _<_};
 ghost use lib.ListN.{length, take};

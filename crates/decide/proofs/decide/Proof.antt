@@ -1,0 +1,123 @@
+-- `decide::decide` meets its contract: the tests are 16 to 19 in their order, and what is left is the rule's own answer. Assumes nothing.
+use mathlib.Core.Path.{_≡_, refl, sym, ap, _∙_}
+use mathlib.Core.Bool.{true}
+use native.Mathlib.Omega.{arith}
+use borrow.Author.Needs.{needs}
+use borrow.Author.Tests.{not-true, not-false}
+use Rattle.image.specs.Decode.{isSome, decode}
+use Rattle.stores.specs.Stores.{isTable, isList, entriesIn, twinOf}
+use Rattle.stores.specs.StoresLaws.{well-made-laid}
+use Rattle.stores.specs.declared.Twin.the-variants.{No}
+use Rattle.decide.specs.Decide.{saying}
+use Rattle.decide.specs.AnswerLaws.{refused-16, refused-17, refused-18, refused-19, image-inside, answered}
+use Rattle.decide.proofs.decide.Statement.{statement}
+use Rattle.decide.proofs.decide.Tie as tie
+
+-- what the tests that were passed say
+the-image : (c : tie.Else1) → isSome (decode (c .before .before .before .before .before .args .image .now)) ≡ true
+the-image c = sym (c .before .is-image .ensures) ∙ not-false _ (c .if1 .left)
+
+the-table : (c : tie.Else2) → isTable (c .before .before .before .before .before .before .before .args .stores .now) ≡ true
+the-table c = sym (c .before .well-made .ensures) ∙ not-false _ (c .if2 .left)
+
+the-lone : (c : tie.After-enum-told) → twinOf (entriesIn (c .before .before .before .before .before .before .before .before .before .before .args .stores .now)) ≡ No
+the-lone c = sym (c .before .before .twin-of .ensures) ∙ c .enum-told .given .1
+
+the-list : (c : tie.Else3) → isList (c .before .before .before .before .before .before .before .before .before .before .before .before .args .list .now) ≡ true
+the-list c = sym (c .before .well-made2 .ensures) ∙ not-false _ (c .if3 .left)
+
+is-image-requires : tie.Need-is-image-requires
+is-image-requires c κs = search needs
+
+refuse-requires : tie.Need-refuse-requires
+refuse-requires c κs = search needs
+
+returns : tie.Need-returns
+returns c =
+    c .refuse .ensures ∙ refused-16 _ _ _ _ (sym (c .before .before .is-image .ensures) ∙ not-true _ (c .before .if1 .taken))
+
+well-made-requires : tie.Need-well-made-requires
+well-made-requires c κs = search needs
+
+refuse-requires-2 : tie.Need-refuse-requires-2
+refuse-requires-2 c κs = search needs
+
+returns-2 : tie.Need-returns-2
+returns-2 c =
+    c .refuse2 .ensures ∙ refused-17 _ _ _ _ (the-image (c .before .before .before)) (sym (c .before .before .well-made .ensures) ∙ not-true _ (c .before .if2 .taken))
+
+twin-of-requires : tie.Need-twin-of-requires
+twin-of-requires c κs = well-made-laid _ _ (the-table c)
+
+enum-known-i : tie.Need-enum-known-i
+enum-known-i c = search needs
+
+refuse-requires-3 : tie.Need-refuse-requires-3
+refuse-requires-3 c κs = search needs
+
+returns-3 : tie.Need-returns-3
+returns-3 c =
+    c .refuse3 .ensures ∙ refused-18 _ _ _ _ (the-image (c .before .before .before .before .before .before .before)) (the-table (c .before .before .before .before .before)) (sym (c .before .before .before .before .twin-of .ensures) ∙ c .before .before .i .given .1)
+
+enum-told : tie.Need-enum-told
+enum-told c = search needs
+
+well-made-requires-2 : tie.Need-well-made-requires-2
+well-made-requires-2 c κs = search needs
+
+refuse-requires-4 : tie.Need-refuse-requires-4
+refuse-requires-4 c κs = search needs
+
+returns-4 : tie.Need-returns-4
+returns-4 c =
+    c .refuse4 .ensures ∙ refused-19 _ _ _ _ (the-image (c .before .before .before .before .before .before .before .before)) (the-table (c .before .before .before .before .before .before)) (the-lone (c .before .before .before)) (sym (c .before .before .well-made2 .ensures) ∙ not-true _ (c .before .if3 .taken))
+
+le2-requires : tie.Need-le2-requires
+le2-requires c κs =
+    let s = c .before .before .before .before .before .before .before .before .before .before .before .before .args in
+    omega (arith, image-inside (s .image .now) (s .stores .now) (s .age) (s .list .now) (the-image (c .before .before .before .before .before .before .before)) refl .long)
+
+ready-count-requires : tie.Need-ready-count-requires
+ready-count-requires c κs =
+    let table = well-made-laid _ _ (the-table (c .before .before .before .before .before .before)) in
+    let list = well-made-laid _ _ (the-list (c .before)) in
+    search needs
+
+evaluate-requires : tie.Need-evaluate-requires
+evaluate-requires c κs =
+    let s = c .before .before .before .before .before .before .before .before .before .before .before .before .before .before .args in
+    (image-inside (s .image .now) (s .stores .now) (s .age) (s .list .now) (the-image (c .before .before .before .before .before .before .before .before .before)) (c .before .le2 .ensures .0), well-made-laid _ _ (the-list (c .before .before)))
+
+returns-5 : tie.Need-returns-5
+returns-5 c =
+    let e = c .before .evaluate in
+    sym (ap saying (c .if4 .taken)) ∙ answered _ _ _ _ (the-image (c .before .before .before .before .before .before .before .before .before .before .before)) (the-table (c .before .before .before .before .before .before .before .before .before)) (the-lone (c .before .before .before .before .before .before)) (the-list (c .before .before .before .before)) (c .before .before .before .le2 .ensures .0) (c .before .before .ready-count .ensures) (e .result) (e .ensures)
+
+returns-6 : tie.Need-returns-6
+returns-6 c =
+    let e = c .before .evaluate in
+    sym (ap saying (c .if4 .left)) ∙ answered _ _ _ _ (the-image (c .before .before .before .before .before .before .before .before .before .before .before)) (the-table (c .before .before .before .before .before .before .before .before .before)) (the-lone (c .before .before .before .before .before .before)) (the-list (c .before .before .before .before)) (c .before .before .before .le2 .ensures .0) (c .before .before .ready-count .ensures) (e .result) (e .ensures)
+
+pub decide-spec : {M : Type 1} → statement M
+decide-spec =
+    tie.close
+    (tie.spec
+    is-image-requires
+    refuse-requires
+    returns
+    well-made-requires
+    refuse-requires-2
+    returns-2
+    twin-of-requires
+    enum-known-i
+    refuse-requires-3
+    returns-3
+    enum-told
+    well-made-requires-2
+    refuse-requires-4
+    returns-4
+    le2-requires
+    ready-count-requires
+    evaluate-requires
+    returns-5
+    returns-6)

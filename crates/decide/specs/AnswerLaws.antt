@@ -1,0 +1,54 @@
+-- What deciding answers, by whether the bytes are an image, and by what evaluating the image's rule says. Assumes nothing.
+use mathlib.Core.Path.{_≡_, refl, sym, ap, _∙_}
+use mathlib.Core.Bool.{Bool, true, false, true≢false}
+use mathlib.Core.List.{List}
+use mathlib.Core.Option.{Option, none, some}
+use Prim.Native.Nat.{ℕ}
+use Rattle.refusals.specs.Refusals.{refusal, badImage, badStoreTable, twinName, badConfirmedList}
+use Rattle.image.specs.Rule.{Rule, size}
+use Rattle.image.specs.Bytes.{leAt}
+use Rattle.image.specs.Decode.{isSome, cellAt, decode}
+use Rattle.image.specs.FitLaws.{isSome-true}
+use Rattle.stores.specs.Stores.{isTable, isList, entriesIn, readyCount, twinOf}
+use Rattle.stores.specs.declared.Twin.the-variants.{No, At}
+use Rattle.decide.specs.Evict.{evict}
+use Rattle.decide.specs.Decide.{saying, listNames, decideOf}
+use Rattle.decide.specs.Subtree.{Stands, Inside}
+use Rattle.decide.specs.DecideLaws.{decide-16, decide-17, decide-18, decide-19, decide-says}
+use Rattle.decide.specs.InsideLaws.{decode-whole}
+use Rattle.decide.specs.declared.Decision.the-variants.{Refused}
+
+isSome-false : {A : Type 0} (o : Option A) → isSome o ≡ false → o ≡ none
+isSome-false none e = refl
+isSome-false (some a) e = absurd (true≢false e)
+
+-- of bytes i, s and l, and an age a
+module _ (i s : List ℕ) (a : ℕ) (l : List ℕ) where
+  pub refused-16 : isSome (decode i) ≡ false → Refused (refusal badImage 0) ≡ decideOf i s a l
+  refused-16 e = sym (decide-16 i s a l (isSome-false (decode i) e))
+
+  -- the bytes are an image
+  module _ (image : isSome (decode i) ≡ true) where
+    pub image-inside : {n : ℕ} → n ≡ leAt i 0 2 → Inside i n 0 n
+    image-inside p = let (r, e) = isSome-true (decode i) image in decode-whole i p e .inside
+
+    pub refused-17 : isTable s ≡ false → Refused (refusal badStoreTable 0) ≡ decideOf i s a l
+    refused-17 e = let (r, p) = isSome-true (decode i) image in sym (decide-17 i s a l p e)
+
+    -- the stores are a table
+    module _ (table : isTable s ≡ true) where
+      pub refused-18 : {n : ℕ} → twinOf (entriesIn s) ≡ At n → Refused (refusal twinName n) ≡ decideOf i s a l
+      refused-18 e = let (r, p) = isSome-true (decode i) image in sym (decide-18 i s a l p table e)
+
+      -- of which no two have one name
+      module _ (lone : twinOf (entriesIn s) ≡ No) where
+        pub refused-19 : isList l ≡ false → Refused (refusal badConfirmedList 0) ≡ decideOf i s a l
+        refused-19 e = let (r, p) = isSome-true (decode i) image in sym (decide-19 i s a l p table lone e)
+
+        -- b is the answer of whatever rule has all n nodes
+        pub answered : {n ready : ℕ} → isList l ≡ true → n ≡ leAt i 0 2 → ready ≡ readyCount (entriesIn s) (listNames l) → (b : Bool) → ((r : Rule) → size r ≡ n → Stands r (cellAt i n) 0 → b ≡ evict r (record { age = a; ready = ready; names = listNames l })) → saying b ≡ decideOf i s a l
+        answered is p c b says =
+            let (r, e) = isSome-true (decode i) image in
+            let w = decode-whole i p e in
+            let q = rw c at (says r (w .sized) (w .stands)) in
+            ap saying q ∙ sym (decide-says i s a l e table lone is)

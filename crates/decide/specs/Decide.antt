@@ -1,0 +1,39 @@
+-- "Decide takes image, stores, age, list, tests 16 to 19, and answers evict or keep." Assumes nothing.
+use Prim.Native.Nat.{ℕ}
+use mathlib.Core.Bool.{Bool, true, false, cond}
+use mathlib.Core.List.{List}
+use mathlib.Core.Option.{Option, none, some}
+use Rattle.refusals.specs.Refusals.{refusal, badImage, badStoreTable, twinName, badConfirmedList}
+use Rattle.image.specs.Rule.{Rule}
+use Rattle.image.specs.Decode.{decode}
+use Rattle.stores.specs.Stores.{isTable, isList, entriesIn, namesOf, twinOf}
+use Rattle.stores.specs.declared.Twin.{Twin}
+use Rattle.stores.specs.declared.Twin.the-variants.{No, At}
+use Rattle.decide.specs.Evict.{worldOf, evict}
+use Rattle.decide.specs.declared.Decision.{Decision}
+use Rattle.decide.specs.declared.Decision.the-variants.{Evict, Keep, Refused}
+
+abbrev pub saying : Bool → Decision
+saying true = Evict
+saying false = Keep
+
+-- the names that a list holds
+abbrev pub listNames : List ℕ → List (List ℕ)
+listNames l = namesOf 0 0 (entriesIn l)
+
+-- 18, then `rest`
+abbrev pub unlessTwin : Twin → Decision → Decision
+unlessTwin No rest = rest
+unlessTwin (At i) rest = Refused (refusal twinName i)
+
+-- 16, then 17, 18 and 19, then what the rule says
+abbrev pub decideRule : Option Rule → List ℕ → ℕ → List ℕ → Decision
+decideRule none stores age list = Refused (refusal badImage 0)
+decideRule (some r) stores age list =
+    cond (isTable stores)
+    (unlessTwin (twinOf (entriesIn stores))
+    (cond (isList list) (saying (evict r (worldOf (entriesIn stores) age (listNames list)))) (Refused (refusal badConfirmedList 0))))
+    (Refused (refusal badStoreTable 0))
+
+unfoldable pub decideOf : List ℕ → List ℕ → ℕ → List ℕ → Decision
+decideOf image stores age list = decideRule (decode image) stores age list

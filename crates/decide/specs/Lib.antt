@@ -1,0 +1,12 @@
+pub mod Evict
+pub mod JoinLaws
+pub mod MonotoneLaws
+pub mod Decide
+pub mod DecideLaws
+pub mod ReadDecideLaws
+pub mod Subtree
+pub mod MeaningLaws
+pub mod SubtreeLaws
+pub mod ReadingLaws
+pub mod InsideLaws
+pub mod AnswerLaws
