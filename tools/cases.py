@@ -3,16 +3,19 @@
 
 usage: python3 tools/cases.py > crates/replay/stdin
 
-A case is a line, `read TEXT BUFFER ANSWER`: the text in hex (`-` where it is empty), the length of
-the lent buffer, and either `no NUMBER PLACE` or `ok IMAGE`, the bytes written in hex. The answers
-come from the small reader below, which follows document 01 sentence by sentence. Where document 01
-or the list of traps states an answer itself, the reader is held to it first.
+A case is a line. `read TEXT BUFFER ANSWER`: the text in hex (`-` where it is empty), the length of
+the lent buffer, and either `no NUMBER PLACE` or `ok IMAGE`, the bytes written in hex.
+`decide IMAGE STORES AGE LIST ANSWER`: the image, the table of stores and the confirmed list in hex
+(`-` where empty), the age in decimal, and `evict`, `keep` or `no NUMBER PLACE`. The answers come
+from the small reader and the small decider below, which follow document 01 sentence by sentence.
+Where document 01 or the list of traps states an answer itself, they are held to it first.
 The list is the same bytes on every run.
 """
 import sys
 
 SHORT, LONG, FOREIGN, HALF, QUOTE, STRAY, NONE, OPEN = range(1, 9)
 TRAILING, UNKNOWN, MISSING, COUNT, DURATION, EMPTY, DEEP = range(9, 16)
+BAD_IMAGE, BAD_STORES, TWIN, BAD_LIST = range(16, 20)
 
 NEED = 26628
 LENGTH = 2048
@@ -246,6 +249,108 @@ def read(text, room):
         return ('ok', image(rule))
     except Refused as refused:
         return ('no', refused.number, refused.place)
+
+
+# Deciding, as document 01 lays it down
+
+NODES = 2048
+NAME_BYTES = 2048
+STORES = 64
+MOST = 2 ** 64 - 1
+
+
+def number(data, at, size):
+    return int.from_bytes(data[at:at + size], 'little')
+
+
+def rule_of(data):
+    """The rule that an image holds, as [kind, argument, children]; refuses with 16 where the layout is broken."""
+    broken = Refused(BAD_IMAGE, 0)
+    if len(data) < 4:
+        raise broken
+    n, m = number(data, 0, 2), number(data, 2, 2)
+    if not 1 <= n <= NODES or m > NAME_BYTES or len(data) != 4 + 12 * n + m:
+        raise broken
+    names, used = data[4 + 12 * n:], 0
+    if any(byte >= 128 for byte in names):
+        raise broken
+    # The rules that stand without a parent yet, with their sizes.
+    standing = []
+    for index in range(n):
+        size, kind = divmod(number(data, 4 + 4 * index, 4), 256)
+        argument, children = number(data, 4 + 4 * n + 8 * index, 8), []
+        if kind > ANY or size < 1:
+            raise broken
+        if kind in (NAMED, OLDER, READABLE) and size != 1:
+            raise broken
+        if kind in (AT_LEAST, ALL, ANY) and size == 1:
+            raise broken
+        left = size - 1
+        while left:
+            if not standing or standing[-1][0] > left:
+                raise broken
+            below, child = standing.pop()
+            children.insert(0, child)
+            left -= below
+        if kind in (ALL, ANY) and argument:
+            raise broken
+        if kind == NAMED:
+            start, length = divmod(argument, 65536)
+            if start != used:
+                raise broken
+            used += length
+            argument = names[start:used]
+        standing.append((size, [kind, argument, children]))
+    if used != m or len(standing) != 1:
+        raise broken
+    return standing[0][1]
+
+
+def entries_of(data, modes, refusal):
+    """The entries (mode, name) of a table or a list with those modes; the refusal where its layout is broken."""
+    if len(data) < 4:
+        raise refusal
+    many, total = number(data, 0, 2), number(data, 2, 2)
+    if many > STORES or len(data) != 4 + 2 * many + total:
+        raise refusal
+    found, lengths, names = data[4:4 + many], data[4 + many:4 + 2 * many], data[4 + 2 * many:]
+    if any(mode not in modes for mode in found) or sum(lengths) != total or any(byte >= 128 for byte in names):
+        raise refusal
+    entries, at = [], 0
+    for mode, length in zip(found, lengths):
+        entries.append((mode, names[at:at + length]))
+        at += length
+    return entries
+
+
+def says(rule, age, ready, confirmed):
+    """What a rule says: True for evict."""
+    kind, argument, children = rule
+    below = [says(child, age, ready, confirmed) for child in children]
+    if kind == NAMED:
+        return argument in confirmed
+    if kind == OLDER:
+        return age >= argument
+    if kind == READABLE:
+        return ready >= argument
+    if kind == AT_LEAST:
+        return below.count(True) >= argument
+    return all(below) if kind == ALL else any(below)
+
+
+def decide(data, stores, age, confirmed_list):
+    """What deciding answers: 'evict', 'keep' or 'no NUMBER PLACE'."""
+    try:
+        rule = rule_of(data)
+        known = entries_of(stores, (0, 1, 2), Refused(BAD_STORES, 0))
+        for place, (_, name) in enumerate(known):
+            if name in [earlier for _, earlier in known[:place]]:
+                raise Refused(TWIN, place)
+        confirmed = {name for _, name in entries_of(confirmed_list, (0,), Refused(BAD_LIST, 0))}
+        ready = sum(mode in (0, 1) and name in confirmed for mode, name in known)
+        return 'evict' if says(rule, age, ready, confirmed) else 'keep'
+    except Refused as refused:
+        return 'no %d %d' % (refused.number, refused.place)
 
 
 # The list
@@ -951,10 +1056,558 @@ def random_cases():
     reached |= before
 
 
+# The cases of decide
+
+
+def decision(data, stores, age, confirmed, stated=None):
+    """Adds a case of decide where it is not there yet; its answer must be the stated one, where one is."""
+    answer = decide(data, stores, age, confirmed)
+    if stated not in (None, answer):
+        sys.exit('%.60r %.60r %d %.60r: decided %s, and stated is %s' % (data, stores, age, confirmed, answer, stated))
+    given = (data, stores, age, confirmed)
+    if given not in seen:
+        seen.add(given)
+        shown = [part.hex() or '-' for part in (data, stores, confirmed)]
+        out.append('decide %s %s %d %s %s' % (shown[0], shown[1], age, shown[2], answer))
+    return answer
+
+
+def of(text):
+    """The image of a rule's text."""
+    answer = read(text, NEED)
+    if answer[0] != 'ok':
+        sys.exit('%r is no rule' % text)
+    return answer[1]
+
+
+def packed(nodes, names=b'', n=None, m=None):
+    """The bytes of an image from its nodes (kind, size, argument), whether or not they keep the layout."""
+    n = len(nodes) if n is None else n
+    m = len(names) if m is None else m
+    return b''.join(
+        [n.to_bytes(2, 'little'), m.to_bytes(2, 'little')]
+        + [(kind + 256 * size).to_bytes(4, 'little') for kind, size, _ in nodes]
+        + [argument.to_bytes(8, 'little') for _, _, argument in nodes]
+        + [names])
+
+
+def name_at(start, length):
+    return (NAMED, 1, start * 65536 + length)
+
+
+def table(*entries, many=None, total=None):
+    """The bytes of a table from its entries (mode, name), whether or not they keep the layout."""
+    names = b''.join(name for _, name in entries)
+    many = len(entries) if many is None else many
+    total = len(names) if total is None else total
+    return b''.join(
+        [many.to_bytes(2, 'little'), total.to_bytes(2, 'little'), bytes(mode for mode, _ in entries),
+         bytes(len(name) for _, name in entries), names])
+
+
+def confirming(*names):
+    return table(*[(0, name) for name in names])
+
+
+HOME = table((0, b'nas'), (2, b'vault'))
+WIDE = table((0, b'nas'), (1, b'mirror'), (2, b'vault'), (0, b'desk'), (2, b'cellar'))
+NOTHING = confirming()
+DAY = 86400000
+
+
+def decided_sheet():
+    note('Rules that document 01 and the demands name')
+    decision(of(b'nas || vault'), HOME, MOST, NOTHING, 'keep')
+    decision(of(b'nas || vault'), HOME, MOST, confirming(b'vault'), 'evict')
+    decision(of(b'nas || vault'), HOME, 0, confirming(b'nas'), 'evict')
+    decision(of(b'at_least(0, nas)'), HOME, 0, NOTHING, 'evict')
+    decision(of(b'at_least(2, nas, vault)'), HOME, MOST, confirming(b'vault'), 'keep')
+    decision(of(b'at_least(2, nas, vault)'), HOME, 0, confirming(b'vault', b'nas'), 'evict')
+    decision(of(b'vault && cellar'), WIDE, MOST, confirming(b'vault', b'cellar'), 'evict')
+    decision(of(b'vault && cellar'), WIDE, MOST, confirming(b'vault'), 'keep')
+    for age, answer in ((30 * DAY - 1, 'keep'), (30 * DAY, 'evict'), (MOST, 'evict')):
+        decision(of(b'older_than(30d) && readable(1)'), HOME, age, confirming(b'nas'), answer)
+        decision(of(b'older_than(30d) && readable(1)'), HOME, age, confirming(b'vault'), 'keep')
+        decision(of(b'at_least(2, older_than(30d), vault)'), HOME, age, confirming(b'vault'), answer)
+    decision(of(b'nas && readable(1)'), HOME, 0, confirming(b'nas'), 'evict')
+    decision(of(b"'READABLE'"), HOME, 0, confirming(b'nas'), 'evict')
+    decision(of(b"'READABLE'"), HOME, MOST, confirming(b'vault'), 'keep')
+
+
+def named_cases():
+    note('Names: confirmed or not, of a store or of none')
+    decision(of(b'nas'), HOME, 0, confirming(b'nas'), 'evict')
+    decision(of(b'nas'), HOME, MOST, NOTHING, 'keep')
+    decision(of(b'nas'), HOME, MOST, confirming(b'vault'), 'keep')
+    decision(of(b'vault'), HOME, 0, confirming(b'vault'), 'evict')
+    decision(of(b'nas'), table(), 0, confirming(b'nas'), 'evict')
+    decision(of(b'gone'), HOME, 0, confirming(b'gone'), 'evict')
+    decision(of(b'gone'), HOME, 0, confirming(b'nas', b'vault'), 'keep')
+    decision(of(b'gone'), table(), 0, NOTHING, 'keep')
+    for name in (b'Nas', b'NAS', b'na', b'nass', b'nas ', b' nas', b'as', b'sna', b'nat', b'oas', b'nbs', b''):
+        decision(of(b'nas'), HOME, MOST, confirming(name), 'keep')
+        decision(of(b"'" + name + b"'"), HOME, MOST, confirming(b'nas'), 'keep')
+    decision(of(b'ab'), HOME, 0, confirming(b'a', b'b'), 'keep')
+    decision(of(b'a'), HOME, 0, confirming(b'ab', b'ba', b'b'), 'keep')
+    decision(of(b'a && b'), HOME, 0, confirming(b'ab'), 'keep')
+    decision(of(b'bc'), HOME, 0, confirming(b'ab', b'cd'), 'keep')
+    decision(of(b'nas'), HOME, 0, confirming(b'nas', b'nas', b'nas'), 'evict')
+    decision(of(b'nas'), HOME, 0, confirming(b'x', b'', b'vault', b'nas'), 'evict')
+    decision(of(b"''"), HOME, 0, confirming(b''), 'evict')
+    decision(of(b"''"), table((0, b'')), 0, confirming(b'x', b''), 'evict')
+    decision(of(b"''"), table((0, b'')), MOST, NOTHING, 'keep')
+    decision(of(b"''"), table((0, b'')), MOST, confirming(b'x'), 'keep')
+    decision(of(b"'' && nas && ''"), HOME, 0, confirming(b'', b'nas'), 'evict')
+    decision(of(b"nas && '' && vault"), HOME, 0, confirming(b'vault', b'nas'), 'keep')
+    decision(packed([name_at(0, 2)], b'\x00\x7f'), HOME, 0, confirming(b'\x00\x7f'), 'evict')
+    decision(packed([name_at(0, 2)], b'\x00\x7f'), HOME, 0, confirming(b'\x00\x7e'), 'keep')
+    decision(packed([name_at(0, 1)], b'\x00'), HOME, 0, confirming(b''), 'keep')
+    for size in (7, 8, 9, 15, 16, 17, 31, 33, 254, 255):
+        name = filled(b'', b'name of a store ', b'', size)
+        decision(of(b'"' + name + b'"'), table((1, name)), 0, confirming(name), 'evict')
+        decision(of(b'"' + name + b'"'), table((1, name)), 0, confirming(name[:-1] + b'#'), 'keep')
+        decision(of(b'"' + name + b'"'), table((1, name)), 0, confirming(b'#' + name[1:], name[:-1]), 'keep')
+    long = filled(b'', b'long-name.', b'', 600)
+    for size in (256, 257, 255 + 256, 512, 600):
+        decision(of(long[:size]), table((0, long[:255])), 0, confirming(long[:255], long[:size % 256]), 'keep')
+    decision(of(long[:255] + b' || ' + long[:256]), HOME, 0, confirming(long[:255]), 'evict')
+    decision(of(long[:255] + b' && ' + long[:256]), HOME, 0, confirming(long[:255], long[1:256]), 'keep')
+
+
+def older_cases():
+    note('Ages: one below the duration, at it and above it')
+    for span in (0, 1, 2, 255, 256, 65535, 65536, DAY, 30 * DAY, 2 ** 32 - 1, 2 ** 32, 2 ** 63 - 1, 2 ** 63,
+                 MOST - 1, MOST):
+        for age in (span - 1, span, span + 1):
+            if 0 <= age <= MOST:
+                decision(packed([(OLDER, 1, span)]), table(), age, NOTHING, 'evict' if age >= span else 'keep')
+        for age in (0, MOST):
+            decision(packed([(OLDER, 1, span)]), HOME, age, confirming(b'nas'), 'evict' if age >= span else 'keep')
+    for text in (b'older_than(999999999d)', b'older_than("1h 30m")', b'older_than(1ms)', b'older_than(0s)'):
+        span = number(of(text), 8, 8)
+        for age in (max(span, 1) - 1, span, span + 1):
+            decision(of(text), HOME, age, NOTHING, 'evict' if age >= span else 'keep')
+
+
+def readable_cases():
+    note('Readable stores that are confirmed: one below the count, at it and above it')
+    sets = ((0, ()), (0, (b'vault',)), (0, (b'vault', b'cellar')), (0, (b'gone', b'', b'NAS')), (1, (b'nas',)),
+            (1, (b'mirror',)), (1, (b'nas', b'nas', b'nas')), (1, (b'mirror', b'vault', b'cellar', b'gone')),
+            (2, (b'nas', b'desk')), (2, (b'desk', b'mirror', b'desk', b'mirror')), (3, (b'desk', b'nas', b'mirror')),
+            (3, (b'desk', b'nas', b'mirror', b'vault', b'cellar', b'gone', b'nas')))
+    for ready, names in sets:
+        for count_wanted in sorted({0, max(ready, 1) - 1, ready, ready + 1, len(names), MOST}):
+            decision(packed([(READABLE, 1, count_wanted)]), WIDE, MOST, confirming(*names),
+                     'evict' if ready >= count_wanted else 'keep')
+    decision(of(b'readable(0)'), table(), 0, NOTHING, 'evict')
+    decision(of(b'readable'), table(), MOST, confirming(b'nas'), 'keep')
+    decision(of(b'readable'), table((0, b'')), 0, confirming(b''), 'evict')
+    decision(of(b'readable'), table((2, b'')), 0, confirming(b''), 'keep')
+    decision(of(b'readable'), table((1, b'')), 0, NOTHING, 'keep')
+    decision(of(b'readable(2)'), table((1, b''), (0, b'a')), 0, confirming(b'a', b''), 'evict')
+    many = [b's%d' % index for index in range(STORES)]
+    for modes, ready in (((0,), 64), ((1,), 64), ((2,), 0), ((0, 1), 64), ((0, 2), 32), ((2, 2, 1), 21), ((0, 1, 2), 43)):
+        stores = table(*[(modes[index % len(modes)], name) for index, name in enumerate(many)])
+        for count_wanted in sorted({max(ready, 1) - 1, ready, ready + 1}):
+            decision(of(b'readable(%d)' % count_wanted), stores, 0, confirming(*reversed(many)),
+                     'evict' if ready >= count_wanted else 'keep')
+
+
+def combined_cases():
+    note('Combinators: children that say evict, one below the count, at it and above it')
+    for many in (1, 2, 3, 5):
+        names = [b'abcde'[index:index + 1] for index in range(many)]
+        for yes in range(many + 1):
+            # The children that say evict stand at the end, then at the front.
+            for confirmed in (names[many - yes:], names[:yes]):
+                given = confirming(*confirmed)
+                for count_wanted in sorted({0, max(yes, 1) - 1, yes, yes + 1, many, many + 1, MOST}):
+                    if many in (1, 3) or count_wanted in (yes, yes + 1):
+                        decision(of(b'at_least(%d, %s)' % (count_wanted, b', '.join(names))), HOME, 0, given,
+                                 'evict' if yes >= count_wanted else 'keep')
+                decision(of(b'all(' + b', '.join(names) + b')'), HOME, 0, given, 'evict' if yes == many else 'keep')
+                decision(of(b'any(' + b', '.join(names) + b')'), HOME, 0, given, 'evict' if yes else 'keep')
+    decision(of(b'at_least(2, a, a)'), HOME, 0, confirming(b'a'), 'evict')
+    decision(of(b'at_least(3, a, a, b)'), HOME, 0, confirming(b'a', b'a', b'a'), 'keep')
+    decision(of(b'at_least(2, any(a, b, c), d)'), HOME, 0, confirming(b'a', b'b', b'c'), 'keep')
+    decision(of(b'at_least(2, all(a, b), any(c, d))'), HOME, 0, confirming(b'a', b'b', b'd'), 'evict')
+    decision(of(b'at_least(18446744073709551615, a, b)'), HOME, MOST, confirming(b'a', b'b'), 'keep')
+
+
+def nested_cases():
+    note('Combinators in combinators')
+    texts = (b'a && b || c', b'a && (b || c)', b'(a || b) && (c || d)', b'a && b || c && d', b'any(all(a), all(b, c))',
+             b'all(any(a, b), any(c))', b'at_least(1, all(a, b), any(all(c, d)), at_least(2, a, c, d))',
+             b'all(all(all(all(a))))', b'any(any(any(any(a, b)))) && any(all(any(c)))',
+             b'at_least(2, at_least(2, at_least(0, a), b, c), c, d)', b'all(older_than(5ms), any(readable(2), a))')
+    for text in texts:
+        for names in ((), (b'a',), (b'b', b'c'), (b'c',), (b'a', b'd'), (b'd', b'c', b'b', b'a')):
+            decision(of(text), table((0, b'a'), (1, b'b'), (2, b'c'), (0, b'd')), len(names) * 3, confirming(*names))
+    for deep in (2, 3, 64, 65):
+        for kind, argument in ((ALL, 0), (ANY, 0), (AT_LEAST, 1)):
+            nodes = [name_at(0, 1)] + [(kind, 2 + level, argument) for level in range(deep)]
+            decision(packed(nodes, b'a'), HOME, 0, confirming(b'a'), 'evict')
+            decision(packed(nodes, b'a'), HOME, MOST, confirming(b'b'), 'keep')
+    nodes = [name_at(0, 1)] + [(AT_LEAST, 2 + level, 2 if level == 40 else 1) for level in range(64)]
+    decision(packed(nodes, b'a'), HOME, 0, confirming(b'a'), 'keep')
+    nodes = [name_at(0, 1)] + [(AT_LEAST, 2 + level, 0 if level == 40 else 1) for level in range(64)]
+    decision(packed(nodes, b'a'), HOME, 0, NOTHING, 'evict')
+
+
+MIXED = b'at_least(2, all(nas, older_than(1d)), any(vault, readable(2)), cellar)'
+
+
+def image_cases():
+    note('Images that break the layout')
+    held = (HOME, MOST, confirming(b'nas', b'vault'))
+
+    def bad(data):
+        decision(data, *held, stated='no 16 0')
+
+    def good(data, answer):
+        decision(data, *held, stated=answer)
+
+    yes, no_leaf = (OLDER, 1, 0), (READABLE, 1, 9)
+    base = of(MIXED)
+    good(base, 'evict')
+    note('Too short, too long, empty, too many nodes or name bytes')
+    for size in (0, 1, 2, 3, 4, 5, 4 + 4 * 8, 4 + 12 * 8 - 1, 4 + 12 * 8, len(base) - 1):
+        bad(base[:size])
+    for more in (b'\x00', b'a', b'\x00' * 12, base):
+        bad(base + more)
+    bad(b'\x00' * 4)
+    bad(b'\x00' * 16)
+    bad(b'\x01\x00\x00\x00')
+    bad(b'\xff' * 4)
+    bad(b'\xff' * 64)
+    bad(packed([], b'a'))
+    good(packed([yes]), 'evict')
+    bad(packed([yes], n=0))
+    bad(packed([yes], n=2))
+    bad(packed([yes], n=257))
+    bad(packed([yes], m=1))
+    bad(packed([yes], b'a'))
+    bad(packed([yes], b'a', m=0))
+    bad(packed([yes, yes], n=1))
+    bad(packed([name_at(0, 3)], b'nas', m=2))
+    bad(packed([name_at(0, 3)], b'nas', m=4))
+    bad(packed([name_at(0, 3)], b'nas', m=3 + 256))
+    bad(packed([yes], b'x' * 12, m=0))
+    bad(packed([(6, 1, 0)] * 2, n=1, m=12))
+    note('Kinds')
+    for kind in (6, 7, 8, 16, 127, 128, 254, 255):
+        bad(packed([(kind, 1, 0)]))
+        bad(packed([yes, (kind, 2, 0)]))
+        bad(packed([(kind, 1, 0), (ANY, 2, 0)]))
+        bad(packed([yes, (kind, 2, 0), (ANY, 3, 0)]))
+    note('Sizes of leaves')
+    for size in (0, 2, 3, 255, 256, 257, 65537, 2 ** 24 - 1):
+        bad(packed([(OLDER, size, 0)]))
+        bad(packed([(READABLE, size, 0)]))
+        bad(packed([(NAMED, size, 3)], b'nas'))
+        bad(packed([yes, (OLDER, size, 0), (ALL, 3, 0)]))
+        bad(packed([name_at(0, 3), (NAMED, size, 3 * 65536)], b'nas'))
+    note('Sizes of combinators')
+    for kind in (AT_LEAST, ALL, ANY):
+        good(packed([yes, (kind, 2, 0)]), 'evict')
+        for size in (0, 1, 3, 4, 258, 65538, 2 ** 24 - 1, 2 ** 24 - 2):
+            bad(packed([yes, (kind, size, 0)]))
+        for size in (0, 1):
+            bad(packed([(kind, size, 0)]))
+            bad(packed([yes, (kind, size, 0), (ANY, 3, 0)]))
+            bad(packed([(kind, size, 0), yes, (ANY, 3, 0)]))
+            bad(packed([(kind, size, 0), (ANY, 2, 0)]))
+        good(packed([yes, no_leaf, yes, (AT_LEAST, 2, 1), (kind, 5, 0)]),
+             'keep' if kind == ALL else 'evict')
+        for size in (0, 1, 2, 3, 4, 6, 7, 261, 65541):
+            bad(packed([yes, no_leaf, yes, (AT_LEAST, 2, 1), (kind, size, 0)]))
+        for size in (0, 1, 5, 6, 258, 65538):
+            bad(packed([yes, no_leaf, yes, (kind, size, 0), (ANY, 5, 0)]))
+        for size in (3, 4):
+            decision(packed([yes, no_leaf, yes, (kind, size, 0), (ANY, 5, 0)]), *held)
+    note('Sizes that do not tile')
+    bad(packed([yes, yes, (ALL, 3, 0), (ANY, 2, 0), (ANY, 5, 0)]))
+    bad(packed([yes, yes, (ALL, 3, 0), (ANY, 3, 0), (ANY, 5, 0)]))
+    bad(packed([yes, (ALL, 2, 0), (ANY, 2, 0), (ALL, 4, 0)]))
+    bad(packed([yes, yes, (ALL, 3, 0), yes, (ANY, 3, 0), (ALL, 6, 0)]))
+    for size in (2, 3, 6, 7):
+        bad(packed([yes, yes, yes, (ALL, 3, 0), (AT_LEAST, size, 1), (ANY, 6, 0)]))
+    good(packed([yes, yes, yes, (ALL, 3, 0), (AT_LEAST, 4, 1), (ANY, 6, 0)]), 'evict')
+    good(packed([yes, yes, yes, (ALL, 3, 0), (AT_LEAST, 5, 1), (ANY, 6, 0)]), 'evict')
+    good(packed([yes, yes, (ALL, 3, 0), (ANY, 4, 0), (ANY, 5, 0)]), 'evict')
+    bad(packed([(ANY, 2, 0), yes]))
+    bad(packed([(ANY, 2, 0), yes, (ALL, 3, 0)]))
+    bad(packed([(ANY, 3, 0), yes, yes]))
+    bad(packed([yes, (ANY, 3, 0), yes, (ALL, 4, 0)]))
+    note('More roots than one')
+    bad(packed([yes, yes]))
+    bad(packed([yes, yes, (ALL, 2, 0)]))
+    bad(packed([yes, (ALL, 2, 0), yes]))
+    bad(packed([yes, (ALL, 2, 0), yes, (ALL, 2, 0)]))
+    bad(packed([yes, yes, (ALL, 3, 0), yes, (ALL, 2, 0)]))
+    note('Arguments of all and any')
+    for kind in (ALL, ANY):
+        for argument in (1, 2, 255, 256, 65536, 2 ** 32, 2 ** 48, 2 ** 56, 2 ** 63, MOST):
+            bad(packed([yes, (kind, 2, argument)]))
+        bad(packed([yes, (kind, 2, 1), (AT_LEAST, 3, 1)]))
+    for argument in (0, 1, 2, 256, 2 ** 32, 2 ** 63, MOST):
+        good(packed([yes, (AT_LEAST, 2, argument)]), 'evict' if argument < 2 else 'keep')
+    note('Arguments of names')
+    good(packed([name_at(0, 3)], b'nas'), 'evict')
+    for high in (2 ** 16, 2 ** 17, 2 ** 24, 2 ** 31, 2 ** 32, 2 ** 33, 2 ** 40, 2 ** 47, 2 ** 48, 2 ** 63):
+        bad(packed([(NAMED, 1, high + 3)], b'nas'))
+        bad(packed([name_at(0, 3), (NAMED, 1, (3 * 65536 + 5) ^ high), (ALL, 3, 0)], b'nasvault'))
+    for length in (0, 1, 2, 4, 8, 259, 2048, 32768, 65535):
+        bad(packed([name_at(0, length)], b'nas'))
+    for first, second, length in ((0, 0, 5), (0, 2, 5), (0, 4, 5), (1, 3, 5), (0, 3, 4), (0, 3, 6), (0, 8, 0), (3, 0, 5)):
+        bad(packed([name_at(first, 3), name_at(second, length), (ANY, 3, 0)], b'nasvault'))
+    bad(packed([name_at(3, 5), name_at(0, 3), (ANY, 3, 0)], b'nasvault'))
+    bad(packed([name_at(0, 3), name_at(0, 3), (ANY, 3, 0)], b'nas'))
+    bad(packed([name_at(0, 2), name_at(2, 5), (ANY, 3, 0)], b'nasvault'))
+    bad(packed([name_at(0, 2), name_at(3, 5), (ANY, 3, 0)], b'nasvault'))
+    bad(packed([name_at(0, 0), name_at(1, 0), (ANY, 3, 0)]))
+    bad(packed([name_at(0, 0), name_at(0, 1), (ANY, 3, 0)]))
+    bad(packed([name_at(1, 0)]))
+    bad(packed([name_at(1, 2)], b'nas'))
+    good(packed([name_at(0, 4), name_at(4, 4), (ANY, 3, 0)], b'nasvault'), 'keep')
+    good(packed([name_at(0, 3), yes, name_at(3, 0), name_at(3, 5), (AT_LEAST, 5, 3)], b'nasvault'), 'evict')
+    note('Name bytes')
+    for byte in (127, 128, 129, 192, 255):
+        for place in range(3):
+            name = b'nas'[:place] + bytes([byte]) + b'nas'[place + 1:]
+            answer = 'keep' if byte < 128 else 'no 16 0'
+            decision(packed([name_at(0, 3)], name), HOME, 0, confirming(b'nas'), answer)
+    bad(packed([name_at(0, 3), name_at(3, 5), (ANY, 3, 0)], b'nasvaul\x80'))
+
+
+def flipped_cases():
+    note('An image, a table and a list with a bit of each byte turned')
+    data, stores = of(b'at_least(2, all(nas, older_than(1d)), any(vault, readable))'), HOME
+    given = confirming(b'vault', b'nas')
+    for mask in (1, 4, 128):
+        for at in range(len(data)):
+            decision(data[:at] + bytes([data[at] ^ mask]) + data[at + 1:], stores, DAY, given)
+        for at in range(len(stores)):
+            decision(data, stores[:at] + bytes([stores[at] ^ mask]) + stores[at + 1:], DAY, given)
+        for at in range(len(given)):
+            decision(data, stores, DAY, given[:at] + bytes([given[at] ^ mask]) + given[at + 1:])
+
+
+def table_cases():
+    note('Tables and lists that keep the layout, and such as break it')
+    rule = of(b'readable(1) || nas')
+    plain = confirming(b'nas')
+
+    def tables(data, stated=None):
+        decision(rule, data, 0, plain, stated)
+
+    def lists(data, stated=None):
+        decision(rule, HOME, 0, data, stated)
+
+    def both_bad(data):
+        tables(data, 'no 17 0')
+        lists(data, 'no 19 0')
+
+    for data in (b'', b'\x00', b'\x00' * 2, b'\x00' * 3, b'\x00' * 5, b'\x01\x00\x00\x00', b'\x01\x00\x00\x00\x00',
+                 b'\x00\x00\x01\x00', b'\x00\x00\x01\x00a', b'\xff' * 4, b'\x00\x01\x00\x00', b'\x00\x00\x00\x01',
+                 b'\x40\x00\x00\x00', b'\x00\x00\x00\x00\x00\x00'):
+        both_bad(data)
+    tables(table(), 'evict')
+    lists(table(), 'keep')
+    lists(table((0, b'')), 'keep')
+    tables(table((0, b'')), 'evict')
+    for first in range(5):
+        for second in (0, 1, 2, 3, 255):
+            tables(table((first, b'desk'), (second, b'nas')), 'evict' if first < 3 and second < 3 else 'no 17 0')
+            lists(table((first, b'desk'), (second, b'nas')), 'no 19 0' if first or second else 'evict')
+    for mode in (1, 2, 3, 128, 255):
+        lists(table((mode, b'nas')), 'no 19 0')
+        lists(table((mode, b'')), 'no 19 0')
+    entries = [(0, b'nas'), (0, b''), (0, b'desk')]
+    for total in (0, 1, 6, 8, 7 + 256, 65535):
+        both_bad(table(*entries, total=total))
+    for many in (0, 1, 2, 4, 5, 64, 65, 3 + 256, 65535):
+        both_bad(table(*entries, many=many))
+    whole = table(*entries)
+    tables(whole, 'evict')
+    lists(whole, 'evict')
+    for size in range(len(whole)):
+        both_bad(whole[:size])
+    for more in (b'\x00', b'a', b'\x80', b'\x00' * 4, whole):
+        both_bad(whole + more)
+    note('Lengths that do not sum to the total, the bytes being there')
+    for lengths in ((2, 0, 4), (4, 0, 4), (3, 1, 4), (0, 0, 0), (255, 255, 255), (3, 0, 3), (3, 0, 5), (7, 0, 255), (255, 8, 0)):
+        both_bad(whole[:7] + bytes(lengths) + whole[10:])
+    for lengths, answer in (((7, 0, 0), 'no 18 2'), ((0, 0, 7), 'no 18 1'), ((0, 7, 0), 'no 18 2'),
+                            ((3, 4, 0), 'evict'), ((1, 3, 3), 'evict'), ((3, 2, 2), 'evict')):
+        tables(whole[:7] + bytes(lengths) + whole[10:], answer)
+        lists(whole[:7] + bytes(lengths) + whole[10:])
+    note('Name bytes of 127 and 128')
+    for byte in (127, 128, 200, 255):
+        for place in range(4):
+            name = b'desk'[:place] + bytes([byte]) + b'desk'[place + 1:]
+            tables(table((0, b'nas'), (2, name)), 'evict' if byte < 128 else 'no 17 0')
+            lists(table((0, b'nas'), (0, name)), 'evict' if byte < 128 else 'no 19 0')
+    note('64 and 65 entries')
+    many = [b'%d' % index for index in range(66)]
+    for size in (1, 2, 63, 64, 65, 66):
+        stores, given = table(*[(index % 3, name) for index, name in enumerate(many[:size])]), confirming(*many[:size])
+        ready = size - size // 3
+        for count_wanted in (ready, ready + 1):
+            answer = 'evict' if ready >= count_wanted else 'keep'
+            rule_text = b'readable(%d) && %d' % (count_wanted, size - 1)
+            decision(of(rule_text), stores, 0, given, answer if size <= 64 else 'no 17 0')
+        decision(of(b'%d' % (size - 1)), HOME, 0, given, 'evict' if size <= 64 else 'no 19 0')
+        decision(of(b'%d' % size), HOME, 0, given, 'keep' if size <= 64 else 'no 19 0')
+    lists(confirming(*[b'nas'] * 64), 'evict')
+    lists(confirming(*[b'nas'] * 65), 'no 19 0')
+    lists(confirming(*[b''] * 64), 'keep')
+    lists(confirming(*[b''] * 65), 'no 19 0')
+    tables(table(*[(0, b'')] * 65), 'no 17 0')
+    tables(table(*[(0, b'')] * 64), 'no 18 1')
+    note('Names of 0 and 255 bytes')
+    wide = [filled(b'%02d' % index, b'x', b'', 255) for index in range(STORES)]
+    for size in (1, 2):
+        decision(of(b'readable(%d)' % size), table(*[(1, name) for name in wide[:size]]), 0, confirming(*wide[:size]), 'evict')
+        decision(of(b'readable(%d)' % size), table(*[(1, name) for name in wide[:size]], (0, b'')), 0,
+                 confirming(wide[0][:-1], b''), 'evict' if size == 1 else 'keep')
+    decision(of(wide[63] + b' && ' + wide[0]), HOME, 0, confirming(*wide), 'evict')
+    decision(of(wide[63][:-1] + b'y'), HOME, 0, confirming(*wide), 'keep')
+    decision(of(b'readable(2)'), table(*[(0, name) for name in wide]), 0, confirming(wide[63], wide[17]), 'evict')
+    decision(of(b'readable(3)'), table(*[(0, name) for name in wide]), 0, confirming(wide[63], wide[17]), 'keep')
+    decision(of(b'nas'), table(*[(0, name) for name in wide[:63]], (0, wide[40])), 0, NOTHING, 'no 18 63')
+    decision(of(b'nas'), table(*[(0, name) for name in wide[:63]], (0, wide[63][:-1] + b'\x80')), 0, NOTHING, 'no 17 0')
+    decision(of(b'nas'), HOME, 0, confirming(*wide[:63], wide[63][:-1] + b'\x80'), 'no 19 0')
+    note('Twins')
+    for names, place in (((b'a', b'a'), 1), ((b'a', b'b', b'a'), 2), ((b'b', b'a', b'a'), 2), ((b'a', b'a', b'a'), 1),
+                         ((b'a', b'b', b'b', b'a'), 2), ((b'a', b'b', b'a', b'b'), 2), ((b'a', b'b', b'c', b'b', b'a'), 3),
+                         ((b'', b''), 1), ((b'', b'a', b''), 2), ((b'a', b'', b''), 2), ((b'a', b'', b'b', b'', b'a'), 3),
+                         ((b'ab', b'a', b'b', b'ab'), 3), ((b'nas', b'vault', b'nas'), 2)):
+        for modes in ((0, 0), (0, 2), (2, 1)):
+            stores = table(*[(modes[index % 2], name) for index, name in enumerate(names)])
+            decision(rule, stores, MOST, confirming(*names), 'no 18 %d' % place)
+    for names in ((b'a', b'A'), (b'a', b'aa', b'aaa'), (b'ab', b'ba'), (b'', b'\x00'), (b'ab', b'a', b'b', b''), (b'a', b'a ')):
+        tables(table(*[(0, name) for name in names]), 'evict')
+    for first, second in ((0, 63), (62, 63), (31, 32), (0, 1)):
+        changed = [name if index != second else many[first] for index, name in enumerate(many[:64])]
+        tables(table(*[(index % 3, name) for index, name in enumerate(changed)]), 'no 18 %d' % second)
+
+
+def refusal_orders():
+    note('Each refusal against the others: 16, 17, 18, 19 in that order')
+    bad_images = (b'', packed([(OLDER, 1, 0)], n=0), packed([(6, 1, 0)]), of(b'nas')[:-1] + b'\x80')
+    bad_stores = (b'', HOME + b'a', table((3, b'nas')), table((0, b'n\x80s')), table((3, b'nas'), (0, b'nas')))
+    twins = (table((0, b'nas'), (1, b'x'), (2, b'nas')), table((2, b''), (1, b'')))
+    bad_lists = (b'', NOTHING + b'a', table((1, b'nas')), table((0, b'n\x80s')))
+    fine = of(b'nas')
+    for data in bad_images:
+        for stores in (HOME,) + bad_stores[:2] + twins[:1]:
+            for given in (NOTHING,) + bad_lists[:2]:
+                decision(data, stores, 0, given, 'no 16 0')
+    for stores in bad_stores:
+        for given in (NOTHING, confirming(b'nas', b'nas')) + bad_lists:
+            decision(fine, stores, 0, given, 'no 17 0')
+    for stores, place in zip(twins, (2, 1)):
+        for given in (NOTHING, confirming(b'nas', b'nas')) + bad_lists:
+            decision(fine, stores, MOST, given, 'no 18 %d' % place)
+    for given in bad_lists:
+        for stores in (HOME, table()):
+            decision(fine, stores, 0, given, 'no 19 0')
+            decision(of(b'at_least(0, nas)'), stores, MOST, given, 'no 19 0')
+    decision(fine, HOME, 0, HOME, 'no 19 0')
+    decision(HOME, fine, 0, NOTHING, 'no 16 0')
+    decision(fine, fine, 0, NOTHING, 'no 17 0')
+    decision(b'', b'', 0, b'', 'no 16 0')
+
+
+def large_images():
+    note('Images of 2,048 nodes, nested and flat, and of 2,048 name bytes')
+
+    def nested(kind, argument, deep, leaf=(READABLE, 1, 1)):
+        return packed([leaf] + [(kind, 2 + level, argument) for level in range(deep)])
+
+    decision(nested(ALL, 0, 2047), HOME, 0, confirming(b'nas'), 'evict')
+    decision(nested(ALL, 0, 2047), HOME, MOST, confirming(b'vault'), 'keep')
+    decision(nested(ANY, 0, 2047, (OLDER, 1, 7)), HOME, 7, NOTHING, 'evict')
+    decision(nested(AT_LEAST, 1, 2047, (OLDER, 1, 7)), HOME, 6, NOTHING, 'keep')
+    decision(nested(ALL, 0, 2048), HOME, 0, confirming(b'nas'), 'no 16 0')
+    broken = [(READABLE, 1, 1)] + [(ALL, 1 + level if level == 1000 else 2 + level, 0) for level in range(2047)]
+    decision(packed(broken), HOME, 0, confirming(b'nas'), 'no 16 0')
+    flat = [(OLDER, 1, index % 3) for index in range(2047)]
+    decision(packed(flat + [(ALL, 2048, 0)]), HOME, 2, NOTHING, 'evict')
+    decision(packed(flat + [(AT_LEAST, 2048, 1366)]), HOME, 1, NOTHING, 'keep')
+    decision(packed(flat + [(AT_LEAST, 2048, 1365)]), HOME, 1, NOTHING, 'evict')
+    decision(packed(flat + [(ANY, 2047, 0)]), HOME, 2, NOTHING, 'no 16 0')
+    decision(packed([(OLDER, 1, 0)] + flat + [(ANY, 2049, 0)]), HOME, 2, NOTHING, 'no 16 0')
+    names = [name_at(index, 1) for index in range(2046)] + [name_at(2046, 2), (ANY, 2048, 0)]
+    decision(packed(names, b'a' * 2047 + b'b'), HOME, 0, confirming(b'ab'), 'evict')
+    long = filled(b'', b'long name, ', b'', 2049)
+    for size in (2047, 2048):
+        decision(packed([name_at(0, size)], long[:size]), HOME, 0, confirming(long[:255]), 'keep')
+        ends = [name_at(0, size - 3), name_at(size - 3, 3), (ANY, 3, 0)]
+        decision(packed(ends, long[:size - 3] + b'nas'), HOME, 0, confirming(b'nas'), 'evict')
+    decision(packed([name_at(0, 2049)], long), HOME, 0, NOTHING, 'no 16 0')
+    decision(packed([name_at(0, 2046), name_at(2046, 3), (ANY, 3, 0)], long), HOME, 0, confirming(b'nas'), 'no 16 0')
+    decision(packed([name_at(0, 2048)], long[:2047] + b'\x80'), HOME, 0, NOTHING, 'no 16 0')
+    pairs_of = []
+    for index in range(682):
+        pairs_of += [(OLDER, 1, index), (READABLE, 1, index % 2), (AT_LEAST, 3, index % 3)]
+    decision(packed(pairs_of + [(AT_LEAST, 2047, 400)]), HOME, 300, confirming(b'nas'))
+    decision(packed(pairs_of + [(ALL, 2047, 0)]), HOME, 300, confirming(b'nas'), 'keep')
+
+
+POOL = [b'nas', b'vault', b'cellar', b'desk', b'', b'a', b'b', b'Nas', b'mirror', b'x y', b'\x00', b'long-name-of-a-store']
+COUNTS = [0, 1, 1, 2, 2, 3, 4, MOST]
+AGES = [0, 1, 999, 1000, 1001, DAY - 1, DAY, 30 * DAY, 2 ** 32, 2 ** 63, MOST]
+
+
+def drawn_rule(draw, depth):
+    pick = draw.below(9) if depth else draw.below(4)
+    if pick < 2:
+        return [NAMED, draw.of(POOL), []]
+    if pick == 2:
+        return [OLDER, draw.of(AGES), []]
+    if pick == 3:
+        return [READABLE, draw.of(COUNTS), []]
+    kind = draw.of([AT_LEAST, ALL, ANY])
+    return [kind, draw.of(COUNTS) if kind == AT_LEAST else 0,
+            [drawn_rule(draw, depth - 1) for _ in range(1 + draw.below(4))]]
+
+
+def drawn_decisions():
+    note('Drawn: rules, tables and lists that keep the layout')
+    draw, answers = Draw(20260802), []
+    for _ in range(140):
+        rule = drawn_rule(draw, 1 + draw.below(4))
+        stores, left = [], list(POOL)
+        for _ in range(draw.below(7)):
+            stores.append((draw.below(3), left.pop(draw.below(len(left)))))
+        given = [draw.of(POOL) for _ in range(draw.below(8))]
+        answers.append(decision(image(rule), table(*stores), draw.of(AGES), confirming(*given)))
+    if min(answers.count('evict'), answers.count('keep')) < 40 or set(answers) != {'evict', 'keep'}:
+        sys.exit('drawn decisions are one-sided: %d evict of %d' % (answers.count('evict'), len(answers)))
+    note('Drawn: such cases with a byte or two put in place of others, left out or put in')
+    for way in range(60):
+        parts = [image(drawn_rule(draw, 2)), table((draw.below(3), b'nas'), (draw.below(3), draw.of(POOL[1:]))),
+                 confirming(draw.of(POOL), b'nas')]
+        part = way % 3
+        for _ in range(1 + draw.below(2)):
+            at = draw.below(len(parts[part]))
+            put_in = bytes([draw.of([0, 1, 2, 3, 5, 6, 127, 128, 255])]) if draw.below(4) else b''
+            parts[part] = parts[part][:at] + put_in + parts[part][at + draw.below(2):]
+        decision(parts[0], parts[1], draw.of(AGES), parts[2])
+
+
 def main():
     note('read TEXT BUFFER no NUMBER PLACE, or read TEXT BUFFER ok IMAGE; the text and the image in hex')
     for part in (sheet, orders, depths, word_cases, count_cases, duration_cases, list_cases, chain_cases,
                  single_bytes, pairs, lengths, rooms, random_cases):
+        part()
+    # The deepest image has 2,048 nodes above each other.
+    sys.setrecursionlimit(10000)
+    note('decide IMAGE STORES AGE LIST evict, or keep, or no NUMBER PLACE; image, table and list in hex')
+    for part in (decided_sheet, named_cases, older_cases, readable_cases, combined_cases, nested_cases,
+                 image_cases, flipped_cases, table_cases, refusal_orders, large_images, drawn_decisions):
         part()
     sys.stdout.write('\n'.join(out) + '\n')
     sys.stderr.write('%d cases\n' % len(seen))

@@ -91,6 +91,45 @@ pub fn decimal(word: &[u8]) -> Found {
     Found::Number(n)
 }
 
+// A number of up to 64 bits, where a field is one.
+pub enum Wide {
+    Number(u64),
+    Nothing,
+}
+
+// A number with one more digit behind it, where it still fits.
+fn with_digit(n: u64, d: u64) -> Wide {
+    if n > 1_844_674_407_370_955_161 {
+        return Wide::Nothing;
+    }
+    let shifted = n * 10;
+    if d > u64::MAX - shifted {
+        return Wide::Nothing;
+    }
+    Wide::Number(shifted + d)
+}
+
+// The number that a field is in decimal digits, up to 2^64 - 1.
+pub fn wide_decimal(word: &[u8]) -> Wide {
+    if word.len() == 0 {
+        return Wide::Nothing;
+    }
+    let mut n: u64 = 0;
+    let mut i = 0;
+    while i < word.len() {
+        let d = digit(word[i]);
+        if d > 9 {
+            return Wide::Nothing;
+        }
+        let Wide::Number(next) = with_digit(n, d as u64) else {
+            return Wide::Nothing;
+        };
+        n = next;
+        i += 1;
+    }
+    Wide::Number(n)
+}
+
 // The value of a digit in hex, in lower case; 16 for any other byte.
 fn hex_digit(b: u8) -> u8 {
     if b >= b'0' && b <= b'9' {
@@ -126,4 +165,23 @@ pub fn unhex(word: &[u8], out: &mut [u8]) -> Found {
         i += 1;
     }
     Found::Number(size)
+}
+
+// The bytes that a field stands for, at the front of a buffer: in hex, or a dash where there are none.
+pub fn bytes(word: &[u8], out: &mut [u8]) -> Found {
+    if ascii::eq(word, b"-") {
+        return Found::Number(0);
+    }
+    if word.len() == 0 {
+        return Found::Nothing;
+    }
+    unhex(word, out)
+}
+
+// The bytes at the front, as many as asked and no more than there are.
+pub fn front(s: &[u8], size: usize) -> &[u8] {
+    if size < s.len() {
+        return &s[0..size];
+    }
+    s
 }

@@ -1,6 +1,7 @@
 // Runs a list of cases from standard input, one on a line, and prints how many there are and how many differ.
 // Lines that are empty or begin with `#` are passed over. A case is the name of a call, what it is given and what it
 // must answer; `run_case` has the calls.
+mod deciding;
 mod fields;
 mod outcome;
 mod reading;
@@ -36,6 +37,9 @@ fn one_more(n: u64) -> u64 {
 fn run_case(line: &[u8]) -> Outcome {
     if ascii::eq(field(line, 0), b"read") {
         return reading::run(line);
+    }
+    if ascii::eq(field(line, 0), b"decide") {
+        return deciding::run(line);
     }
     Outcome::Unreadable
 }

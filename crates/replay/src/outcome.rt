@@ -1,4 +1,6 @@
-// What a case comes to, and how one that differs is shown.
+// What a case must answer, what it comes to, and how one that differs is shown.
+use crate::fields::Found;
+use crate::fields::decimal;
 use libc::STDOUT_FILENO;
 
 // An answer: a refusal's number and place, or number 0 and the value of an accepted call.
@@ -7,12 +9,36 @@ pub struct Answer {
     pub value: u64,
 }
 
-// What a case comes to. One that differs tells what was answered, and how many bytes at the front of the lent memory are
-// as they should be.
+// The answer that a line expects, or nothing where it is not in the format.
+pub enum Wanted {
+    Answer(Answer),
+    Nothing,
+}
+
+// What a case comes to. One that differs tells what was answered, and, where memory was lent, how many bytes at its front
+// are as they should be.
 pub enum Outcome {
     Agrees,
     Unreadable,
     Differs { answer: Answer, agree: u64 },
+    Answers(Answer),
+}
+
+// A refusal that is expected, from the fields of its number and its place.
+pub fn refusal(number_field: &[u8], place_field: &[u8]) -> Wanted {
+    let Found::Number(number) = decimal(number_field) else {
+        return Wanted::Nothing;
+    };
+    let Found::Number(place) = decimal(place_field) else {
+        return Wanted::Nothing;
+    };
+    if number == 0 {
+        return Wanted::Nothing;
+    }
+    Wanted::Answer(Answer {
+        number: number as u64,
+        value: place as u64,
+    })
 }
 
 // Shows an answer as the list has it, an image by its length alone.
@@ -44,6 +70,11 @@ pub fn print(line: u64, outcome: Outcome) {
             io::write_all(STDOUT_FILENO, b", memory agrees for ");
             io::print_decimal(STDOUT_FILENO, agree);
             io::write_all(STDOUT_FILENO, b" bytes\n");
+        }
+        Outcome::Answers(answer) => {
+            io::write_all(STDOUT_FILENO, b": ");
+            print_answer(answer);
+            io::write_all(STDOUT_FILENO, b"\n");
         }
     }
 }

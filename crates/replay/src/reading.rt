@@ -1,11 +1,15 @@
 // The call `read`: `read TEXT BUFFER no NUMBER PLACE`, or `read TEXT BUFFER ok IMAGE`, the text and the image in hex.
 use crate::fields::Found;
 use crate::fields::blanks;
+use crate::fields::bytes;
 use crate::fields::decimal;
 use crate::fields::field;
+use crate::fields::front;
 use crate::fields::unhex;
 use crate::outcome::Answer;
 use crate::outcome::Outcome;
+use crate::outcome::Wanted;
+use crate::outcome::refusal;
 use expressions::Reading;
 
 // Fills memory with a pattern, so that every byte written can be told from one left alone.
@@ -29,30 +33,12 @@ fn first_difference(a: &[u8], b: &[u8]) -> usize {
     i
 }
 
-// The answer that a line expects, or nothing where it is not in the format.
-enum Wanted {
-    Answer(Answer),
-    Nothing,
-}
-
 // A refusal: its number and its place.
 fn expected_refusal(line: &[u8]) -> Wanted {
     if blanks(line) != 5 {
         return Wanted::Nothing;
     }
-    let Found::Number(number) = decimal(field(line, 4)) else {
-        return Wanted::Nothing;
-    };
-    let Found::Number(place) = decimal(field(line, 5)) else {
-        return Wanted::Nothing;
-    };
-    if number == 0 {
-        return Wanted::Nothing;
-    }
-    Wanted::Answer(Answer {
-        number: number as u64,
-        value: place as u64,
-    })
+    refusal(field(line, 4), field(line, 5))
 }
 
 // An image: its length, and its bytes at the front of the memory that is wanted.
@@ -81,26 +67,7 @@ fn expected(line: &[u8], wanted: &mut [u8]) -> Wanted {
     Wanted::Nothing
 }
 
-// The text of a line, at the front of a buffer.
-fn text_of(word: &[u8], text: &mut [u8]) -> Found {
-    if ascii::eq(word, b"-") {
-        return Found::Number(0);
-    }
-    if word.len() == 0 {
-        return Found::Nothing;
-    }
-    unhex(word, text)
-}
-
-// The bytes at the front, as many as asked and no more than there are.
-fn front(s: &[u8], size: usize) -> &[u8] {
-    if size < s.len() {
-        return &s[0..size];
-    }
-    s
-}
-
-// The same of memory to be written.
+// The bytes at the front of memory to be written, as many as asked and no more than there are.
 fn front_mut(s: &mut [u8], size: usize) -> &mut [u8] {
     if size < s.len() {
         return &mut s[0..size];
@@ -140,7 +107,7 @@ fn compare(text: &[u8], size: usize, room: usize, wanted: &[u8], hoped: Answer) 
 // Runs the case on a line.
 pub fn run(line: &[u8]) -> Outcome {
     let mut text = [0u8; 32768];
-    let Found::Number(size) = text_of(field(line, 1), &mut text) else {
+    let Found::Number(size) = bytes(field(line, 1), &mut text) else {
         return Outcome::Unreadable;
     };
     let Found::Number(room) = decimal(field(line, 2)) else {
