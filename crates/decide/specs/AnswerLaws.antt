@@ -1,14 +1,13 @@
 -- What deciding answers, by whether the bytes are an image, and by what evaluating the image's rule says. Assumes nothing.
-use mathlib.Core.Path.{_≡_, refl, sym, ap, _∙_}
-use mathlib.Core.Bool.{Bool, true, false, true≢false}
+use mathlib.Core.Path.{_≡_, sym, ap, _∙_}
+use mathlib.Core.Bool.{Bool, true, false}
 use mathlib.Core.List.{List}
-use mathlib.Core.Option.{Option, none, some}
 use Prim.Native.Nat.{ℕ}
 use Rattle.refusals.specs.Refusals.{refusal, badImage, badStoreTable, twinName, badConfirmedList}
 use Rattle.image.specs.Rule.{Rule, size}
 use Rattle.image.specs.Bytes.{leAt}
 use Rattle.image.specs.Decode.{isSome, cellAt, decode}
-use Rattle.image.specs.FitLaws.{isSome-true}
+use Rattle.image.specs.FitLaws.{isSome-true, isSome-false}
 use Rattle.stores.specs.Stores.{isTable, isList, entriesIn, readyCount, twinOf}
 use Rattle.stores.specs.declared.Twin.the-variants.{No, At}
 use Rattle.decide.specs.Evict.{evict}
@@ -17,10 +16,6 @@ use Rattle.decide.specs.Subtree.{Stands, Inside}
 use Rattle.decide.specs.DecideLaws.{decide-16, decide-17, decide-18, decide-19, decide-says}
 use Rattle.decide.specs.InsideLaws.{decode-whole}
 use Rattle.decide.specs.declared.Decision.the-variants.{Refused}
-
-isSome-false : {A : Type 0} (o : Option A) → isSome o ≡ false → o ≡ none
-isSome-false none e = refl
-isSome-false (some a) e = absurd (true≢false e)
 
 -- of bytes i, s and l, and an age a
 module _ (i s : List ℕ) (a : ℕ) (l : List ℕ) where

@@ -1,9 +1,8 @@
 -- The rule that an image decodes to stands in the image's nodes, and its names lie inside. Assumes nothing.
 use mathlib.Core.Path.{_≡_, refl, ap}
-use mathlib.Core.Bool.{true}
 use mathlib.Core.List.{List}
 use mathlib.Core.Logic.{⊎-elim}
-use mathlib.Core.Option.{Option, none, some}
+use mathlib.Core.Option.{some}
 use Prim.Native.Nat.{ℕ, zero, suc, _+_, _-_, _*_, _/_, _%_, _≤_, _<_}
 use native.Mathlib.Nat.{eq-or-lt-of-le}
 use native.Mathlib.Omega.{arith}
@@ -13,11 +12,12 @@ use borrow.Author.Tests.{eqb-true}
 use Rattle.image.specs.Rule.{Rule, leaf, Rules, nil, more, size, sizes}
 use Rattle.image.specs.Bytes.{leAt}
 use Rattle.image.specs.Encode.{allAscii}
-use Rattle.image.specs.Decode.{Node, nodeAt, Meaning, aLeaf, aJoin, nothing, Cell, cellAt, place, build, only, nextName, nameEnd, endsAt, decodeParts, decode}
+use Rattle.image.specs.Decode.{Node, nodeAt, Meaning, aLeaf, aJoin, nothing, Cell, cellAt, place, build, only, nameEnd, endsAt, decodeParts, decode}
 use Rattle.image.specs.Decode.{sized as lengths}
 use Rattle.image.specs.EncodeLaws.{size-pos}
 use Rattle.image.specs.BuildLaws.{none-some, when-some, bind-some, chain, closed, sizes-close}
 use Rattle.image.specs.TestLaws.{sized-true}
+use Rattle.image.specs.DecodeLaws.{next-le, ends-some, only-some}
 use Rattle.decide.specs.Subtree.{Stands, StandAll, NamesInside, Inside}
 
 -- ---- what is built stands
@@ -73,16 +73,6 @@ module _ (f : ℕ → Cell) where
 
 -- ---- names that end at t lie before it
 
-next-le : (k a t u : ℕ) → nextName k a t ≡ some u → (t ≤ u) × (k ≡ 0 → a / 65536 + a % 65536 ≤ u)
-next-le zero a t u e =
-    let (b, q) = when-some (eqb (a / 65536) t) (some (t + a % 65536)) e in
-    let r : t + a % 65536 ≡ u = cc in
-    let s = eqb-true (a / 65536) t b in
-    (omega arith, λ h. omega arith)
-next-le (suc k) a t u e =
-    let r : t ≡ u = cc in
-    (omega arith, λ h. absurd (omega arith))
-
 name-before : (f : ℕ → Node) (n t : ℕ) → nameEnd f n ≡ some t → (i : ℕ) → i < n → f i .kind ≡ 0 → f i .arg / 65536 + f i .arg % 65536 ≤ t
 unfolding nameEnd
 name-before f zero t e i lt h = absurd (omega arith)
@@ -92,16 +82,7 @@ name-before f (suc n) t e i lt h =
     let il : i ≤ n = omega arith in
     ⊎-elim (λ p. rw p (here (rw (← p) h))) (λ p. omega (arith, name-before f n u e₀ i p h)) (eq-or-lt-of-le il)
 
-ends-some : (o : Option ℕ) (m : ℕ) → endsAt o m ≡ true → o ≡ some m
-ends-some none m e = let z : _≡_ {A = ℕ} 0 1 = cc in absurd (omega arith)
-ends-some (some t) m e = ap some (eqb-true t m e)
-
 -- ---- the whole image
-
-only-some : (rs : Rules) (r : Rule) → only rs ≡ some r → rs ≡ more nil r
-only-some nil r e = absurd (none-some e)
-only-some (more nil q) r e = cc
-only-some (more (more rs p) q) r e = absurd (none-some e)
 
 -- an image of n nodes, all of them the rule's
 pub record Whole (s : List ℕ) (n : ℕ) (r : Rule) : Type 0 where

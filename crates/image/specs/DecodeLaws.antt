@@ -19,15 +19,16 @@ use Rattle.image.specs.EncodeLaws.{size-pos, length-tags, length-tagsAll
 use Rattle.image.specs.BuildLaws.{none-some, when-some, bind-some, chain, closed, sizes-close, names-close, tags-close, args-close, small-close}
 use Rattle.image.specs.TestLaws.{sized-true}
 
--- names do not run backwards
-next-le : (k a t u : ℕ) → nextName k a t ≡ some u → t ≤ u
+-- names do not run backwards, and a name ends where the next one may begin
+pub next-le : (k a t u : ℕ) → nextName k a t ≡ some u → (t ≤ u) × (k ≡ 0 → a / 65536 + a % 65536 ≤ u)
 next-le zero a t u e =
-    let (g, f) = when-some (eqb (a / 65536) t) (some (t + a % 65536)) e in
-    let ends : t + a % 65536 ≡ u = cc in
-    omega arith
+    let (b, q) = when-some (eqb (a / 65536) t) (some (t + a % 65536)) e in
+    let r : t + a % 65536 ≡ u = cc in
+    let s = eqb-true (a / 65536) t b in
+    (omega arith, λ h. omega arith)
 next-le (suc k) a t u e =
-    let ends : t ≡ u = cc in
-    omega arith
+    let r : t ≡ u = cc in
+    (omega arith, λ h. absurd (omega arith))
 
 module _ (s : List ℕ) (n m : ℕ) (bytes : AllBytes s) (long : length s ≡ 4 + 12 * n + m) where
   -- a node that is read is laid
@@ -140,16 +141,16 @@ module _ (s : List ℕ) (n m : ℕ) (bytes : AllBytes s) (long : length s ≡ 4 
   taken (suc i) u out le short e f =
       let (rs, e₁, e₂) = bind-some (build (cellAt s n) i) _ e in
       let (t, f₁, f₂) = bind-some (nameEnd (nodeAt s n) i) _ f in
-      let l = next-le (nodeAt s n i .kind) (nodeAt s n i .arg) t u f₂ in
+      let l = next-le (nodeAt s n i .kind) (nodeAt s n i .arg) t u f₂ .0 in
       place-taken i t u rs out (cellAt s n i .what) le (says (nodeAt s n i .kind) (nodeAt s n i .arg) t u short f₂) e₂ (taken i t rs (omega arith) (omega arith) e₁ f₁)
 
 -- the tests of a whole image
-only-some : (rs : Rules) (r : Rule) → only rs ≡ some r → rs ≡ more nil r
+pub only-some : (rs : Rules) (r : Rule) → only rs ≡ some r → rs ≡ more nil r
 only-some nil r e = absurd (none-some e)
 only-some (more nil q) r e = cc
 only-some (more (more rs p) q) r e = absurd (none-some e)
 
-ends-some : (o : Option ℕ) (m : ℕ) → endsAt o m ≡ true → o ≡ some m
+pub ends-some : (o : Option ℕ) (m : ℕ) → endsAt o m ≡ true → o ≡ some m
 ends-some none m e = let z : _≡_ {A = ℕ} 0 1 = cc in absurd (omega arith)
 ends-some (some t) m e = ap some (eqb-true t m e)
 

@@ -18,7 +18,7 @@ pub isSome-true : {A : Type 0} (o : Option A) → isSome o ≡ true → (a : A) 
 isSome-true none e = let z : _≡_ {A = ℕ} 0 1 = cc in absurd (omega arith)
 isSome-true (some a) e = (a, refl)
 
-isSome-false : {A : Type 0} (o : Option A) → isSome o ≡ false → o ≡ none
+pub isSome-false : {A : Type 0} (o : Option A) → isSome o ≡ false → o ≡ none
 isSome-false none e = refl
 isSome-false (some a) e = let z : _≡_ {A = ℕ} 0 1 = cc in absurd (omega arith)
 
