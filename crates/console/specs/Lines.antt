@@ -4,7 +4,6 @@ use mathlib.Core.Path.{_≡_}
 use mathlib.Core.List.{List, [], _∷_, _++_}
 use lib.ListN.{length, take}
 use Rattle.io.specs.Digits.{digits, Fewest}
-use Rattle.refusals.specs.declared.Refusal.{Refusal}
 use Rattle.image.specs.Bytes.{leAt}
 use Rattle.expressions.specs.declared.Reading.{Reading}
 use Rattle.expressions.specs.declared.Reading.the-variants.{Read, Refused}

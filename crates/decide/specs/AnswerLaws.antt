@@ -10,9 +10,10 @@ use Rattle.image.specs.Decode.{isSome, cellAt, decode}
 use Rattle.image.specs.FitLaws.{isSome-true, isSome-false}
 use Rattle.stores.specs.Stores.{isTable, isList, entriesIn, readyCount, twinOf}
 use Rattle.stores.specs.declared.Twin.the-variants.{No, At}
+use Rattle.image.specs.Standing.{Stands}
 use Rattle.decide.specs.Evict.{evict}
 use Rattle.decide.specs.Decide.{saying, listNames, decideOf}
-use Rattle.decide.specs.Subtree.{Stands, Inside}
+use Rattle.decide.specs.Subtree.{Inside}
 use Rattle.decide.specs.DecideLaws.{decide-16, decide-17, decide-18, decide-19, decide-says}
 use Rattle.decide.specs.InsideLaws.{decode-whole}
 use Rattle.decide.specs.declared.Decision.the-variants.{Refused}

@@ -1,27 +1,14 @@
 -- A rule in a row of nodes: what evaluating a part of an image asks and promises. Assumes nothing.
-use Prim.Native.Nat.{ℕ, suc, _+_, _*_, _/_, _%_, _≤_, _<_}
+use Prim.Native.Nat.{ℕ, _+_, _*_, _/_, _%_, _≤_, _<_}
 use mathlib.Core.Path.{_≡_}
 use mathlib.Core.List.{List}
 use lib.ListN.{length}
-use Rattle.image.specs.Rule.{Rule, leaf, node, Rules, nil, more, size, sizes}
-use Rattle.image.specs.Decode.{aLeaf, aJoin, Cell, cellAt, nodeAt}
+use Rattle.image.specs.Rule.{Rule, size}
+use Rattle.image.specs.Decode.{Cell, cellAt, nodeAt}
+use Rattle.image.specs.Standing.{Stands}
 use Rattle.stores.specs.Stores.{entriesIn, namesOf}
 use Rattle.decide.specs.Evict.{World}
 use Rattle.decide.specs.declared.View.{View}
-
--- the rule's cells are those from a place on
-unfoldable mutual
-  pub Stands : Rule → (ℕ → Cell) → ℕ → Type 0
-  Stands (leaf l) f s = (f s .what ≡ aLeaf l) × (f s .size ≡ 1)
-  Stands (node j rs r) f s =
-      StandAll rs f s
-      × Stands r f (s + sizes rs)
-      × (f (s + sizes rs + size r) .what ≡ aJoin j)
-      × (f (s + sizes rs + size r) .size ≡ suc (sizes rs + size r))
-
-  pub StandAll : Rules → (ℕ → Cell) → ℕ → Type 0
-  StandAll nil f s = Unit {0}
-  StandAll (more rs r) f s = StandAll rs f s × Stands r f (s + sizes rs)
 
 -- the k cells from `from` on are a rule's
 pub record Subtree (f : ℕ → Cell) (from k : ℕ) : Type 0 where

@@ -8,20 +8,12 @@ use lib.ListN.{length}
 use Rattle.image.specs.Rule.{Leaf, Join, Rule, leaf, node, Rules, nil, more, size, sizes}
 use Rattle.image.specs.Decode.{Meaning, aLeaf, aJoin, Cell}
 use Rattle.image.specs.EncodeLaws.{size-pos}
+use Rattle.image.specs.StandingLaws.{root-size}
+use Rattle.image.specs.Standing.{Stands, StandAll}
 use Rattle.decide.specs.Evict.{World, leafSays, yeses, joinSays, evict, answers}
 use Rattle.decide.specs.JoinLaws.{yeses-le}
-use Rattle.decide.specs.Subtree.{Stands, StandAll, Subtree}
+use Rattle.decide.specs.Subtree.{Subtree}
 use Rattle.decide.specs.MeaningLaws.{NoLeaf, NoJoin}
-
--- a rule's last cell says its size
-root-size : (r : Rule) (f : ℕ → Cell) (s : ℕ) → Stands r f s → f (s + size r - 1) .size ≡ size r
-unfolding size Stands
-root-size (leaf l) f s st =
-    let e : s + 1 - 1 ≡ s = omega arith in
-    rw e (st .1)
-root-size (node j rs r) f s st =
-    let e : s + suc (sizes rs + size r) - 1 ≡ s + sizes rs + size r = omega arith in
-    rw e (st .3)
 
 yeses-moved : (b : Bool) (bs : List Bool) (y z : ℕ) → z ≡ cond b (suc y) y → z + yeses bs ≡ y + yeses (b ∷ bs)
 unfolding yeses

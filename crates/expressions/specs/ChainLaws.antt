@@ -1,30 +1,19 @@
 -- Laws of chains: what a chain's left side gives, and a turn of a chain in the arrays. Assumes nothing.
-use mathlib.Core.Path.{_≡_, refl, sym, ap, subst, _∙_}
+use mathlib.Core.Path.{_≡_, refl, sym, ap, _∙_}
 use mathlib.Core.Bool.{Bool, true, false}
 use mathlib.Core.List.{List, [], _∷_, _++_}
-use Prim.Native.Nat.{ℕ, suc, _+_, _-_, _*_, _%_, _≤_, _<_}
+use Prim.Native.Nat.{ℕ, suc, _+_, _-_, _%_, _≤_, _<_}
 use native.Mathlib.Nat.{add-zero}
 use native.Mathlib.Omega.{arith}
 use borrow.Author.Tests.{eq-eqb}
 use lib.Dec.{eqb}
 use lib.ListN.{length, set, getD, length-append}
-use Rattle.image.specs.Rule.{Leaf, named, olderThan, readable, Join, atLeast, all, any, Rule, leaf, node, Rules, nil, more, size, sizes}
-use Rattle.image.specs.Encode.{leafKind, joinKind, tag, leafArg, joinArg, tags, tagsAll, args, argsAll, names, namesAll}
-use Rattle.image.specs.EncodeLaws.{length-tags, length-tagsAll}
+use Rattle.image.specs.Rule.{named, olderThan, readable, Join, atLeast, all, any, Rule, leaf, node, Rules, nil, more, size, sizes}
+use Rattle.image.specs.Encode.{leafKind, joinKind, tag, joinArg, tags, tagsAll, args, argsAll, names, namesAll}
+use Rattle.image.specs.EncodeLaws.{leaf-kind, join-kind, length-tags, length-tagsAll}
 use Rattle.grammar.specs.Grammar.{leftRules, chain}
 use Rattle.expressions.specs.Parses.{Arrays, Holds, keepIf}
 use Rattle.expressions.specs.ArrayLaws.{unsnoc, last-is, holds-as, holds-join, holds-push}
-
--- ---- kinds
-pub leaf-kind : (l : Leaf) → leafKind l < 256
-leaf-kind (named w) = omega arith
-leaf-kind (olderThan d) = omega arith
-leaf-kind (readable k) = omega arith
-
-pub join-kind : (j : Join) → joinKind j < 256
-join-kind (atLeast k) = omega arith
-join-kind all = omega arith
-join-kind any = omega arith
 
 -- the kind of a rule's root, its tag, and what stands before it
 abbrev rootKind : Rule → ℕ

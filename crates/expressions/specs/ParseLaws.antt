@@ -15,7 +15,7 @@ use Rattle.words.specs.Token.{tokensFrom}
 use Rattle.image.specs.Rule.{Leaf, named, olderThan, readable, Join, all, any, Rule, leaf, node, Rules, nil, more, size, sizes}
 use Rattle.image.specs.Encode.{leafKind, joinKind, tag, leafArg, joinArg, leafName, tags, tagsAll, args, argsAll, names, namesAll}
 use Rattle.image.specs.EncodeLaws.{length-tags, length-tagsAll}
-use Rattle.grammar.specs.Grammar.{Rest, rest, missing, after, andSign, orSign, commaSign, closeSign, firstPlace, Head, aLeaf, aGroup, aList, refused, headIn, chain, Got, got, bad, onto, onRest, closeAfter, byHead, orIn, orMore, andIn, andMore, primaryIn, listMore}
+use Rattle.grammar.specs.Grammar.{Rest, rest, missing, after, andSign, orSign, commaSign, closeSign, firstPlace, aLeaf, aGroup, aList, refused, headIn, chain, Got, got, bad, onto, onRest, closeAfter, orIn, orMore, andIn, andMore, primaryIn, listMore}
 use Rattle.grammar.specs.Heads.{left, leafOf}
 use Rattle.expressions.specs.Parses.{Arrays, Long, Holds, Read, Parsed, keepIf}
 use Rattle.expressions.specs.ArrayLaws.{snoc, holds-as, holds-join, holds-push, holds-none, front, rebased}

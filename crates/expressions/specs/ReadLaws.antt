@@ -1,31 +1,27 @@
 -- Laws of reading a whole text: which test refuses it, and what stands in the arrays and the buffer where it reads as a rule.
 -- Assumes nothing.
 use mathlib.Core.Path.{_≡_, refl, sym, ap, _∙_}
-use mathlib.Core.Bool.{Bool, true, false, cond}
-use mathlib.Core.List.{List, [], _∷_, _++_}
+use mathlib.Core.List.{List, _++_}
 use Prim.Native.Nat.{ℕ, _+_, _*_, _≤_, _<_}
 use native.Mathlib.Omega.{arith}
 use borrow.Author.Tests.{lt-ltb, le-ltb, eq-eqb, ne-eqb}
-use lib.Dec.{ltb, eqb}
+use lib.Dec.{eqb}
 use lib.ListN.{length, take, drop}
 use Rattle.ascii.specs.Text.{runEnd}
 use Rattle.refusals.specs.declared.Refusal.{Refusal}
 use Rattle.refusals.specs.Refusals.{refusal, shortBuffer, longText, foreignByte, trailingToken}
 use Rattle.words.specs.declared.Token.{Token}
-use Rattle.words.specs.declared.Token.the-variants.{End}
 use Rattle.words.specs.declared.Next.{Next}
 use Rattle.words.specs.declared.Next.the-variants.{Off, To}
-use Rattle.words.specs.declared.Scanned.{Scanned}
 use Rattle.words.specs.declared.Scanned.the-variants.{Clean, Refused}
 use Rattle.words.specs.Token.{ascii, placeOf, nextOf, tokenAt, onward, tokensFrom, scanOf}
 use Rattle.words.specs.TokenLaws.{tokens-are}
-use Rattle.image.specs.Rule.{Rule, size}
 use Rattle.image.specs.Bytes.{written}
 use Rattle.image.specs.WrittenLaws.{written-front}
 use Rattle.image.specs.Encode.{tags, args, names, imageOf, encode}
 use Rattle.image.specs.EncodeLaws.{length-tags, length-encode}
-use Rattle.grammar.specs.Grammar.{tokenKind, firstPlace, Got, got, bad, orIn}
-use Rattle.grammar.specs.Reading.{Read, rule, refused, atEnd, ended, parseOf, scannedOf, readOf}
+use Rattle.grammar.specs.Grammar.{tokenKind, Got, got, bad, orIn}
+use Rattle.grammar.specs.Reading.{Read, refused, atEnd, ended, parseOf, readOf}
 use Rattle.expressions.specs.Outcome.{outcome, readingOf, readInto}
 use Rattle.grammar.specs.Heads.{left}
 use Rattle.grammar.specs.TokenListLaws.{first-place}

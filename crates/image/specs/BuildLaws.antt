@@ -2,7 +2,7 @@
 use mathlib.Core.Path.{_≡_, refl, sym, ap, _∙_}
 use mathlib.Core.Bool.{Bool, true, false}
 use mathlib.Core.List.{[], _∷_, _++_, append-assoc, append-nil}
-use mathlib.Core.Option.{Option, none, some}
+use mathlib.Core.Option.{Option, none, some, Option·none-ne-some}
 use Prim.Native.Nat.{ℕ, zero, suc, _+_, _-_, _^_, _≤_, _<_}
 use native.Mathlib.Omega.{arith}
 use lib.Dec.{leb}
@@ -13,15 +13,12 @@ use Rattle.image.specs.Encode.{tag, joinKind, joinArg, namesAll, names, 
 use Rattle.image.specs.Decode.{when, bind, split, close}
 use Rattle.image.specs.EncodeLaws.{size-pos}
 
-pub none-some : {A : Type 0} {a : A} → none ≡ some a → ⊥
-none-some e = let z : _≡_ {A = ℕ} 0 1 = cc in omega arith
-
 pub when-some : {A : Type 0} (b : Bool) (o : Option A) {a : A} → when b o ≡ some a → (b ≡ true) × (o ≡ some a)
 when-some true o e = (refl, e)
-when-some false o e = absurd (none-some e)
+when-some false o e = absurd (Option·none-ne-some _ e)
 
 pub bind-some : {A B : Type 0} (o : Option A) (f : A → Option B) {b : B} → bind o f ≡ some b → (a : A) × (o ≡ some a) × (f a ≡ some b)
-bind-some none f e = absurd (none-some e)
+bind-some none f e = absurd (Option·none-ne-some _ e)
 bind-some (some a) f e = (a, refl, e)
 
 -- the rules ps, and rs behind them
@@ -52,7 +49,7 @@ unfolding chain size split
 chain-split nil zero p e =
     let q : p ≡ (nil, nil) = cc in
     rw q (refl, refl)
-chain-split nil (suc m) p e = absurd (none-some e)
+chain-split nil (suc m) p e = absurd (Option·none-ne-some _ e)
 chain-split (more rs r) zero p e =
     let q : p ≡ (more rs r, nil) = cc in
     rw q (refl, refl)
@@ -81,7 +78,7 @@ pub record Closed (j : Join) (rs : Rules) (m : ℕ) (out : Rules) : Type 0 where
 
 pub closed : (j : Join) (rs : Rules) (m : ℕ) (out : Rules) → close j rs m ≡ some out → Closed j rs m out
 unfolding close
-closed j nil m out e = absurd (none-some e)
+closed j nil m out e = absurd (Option·none-ne-some _ e)
 closed j (more rs r) m out e =
     let (t, e₁) = when-some (leb (size r) m) _ e in
     let (p, e₂, e₃) = bind-some (split rs (m - size r)) _ e₁ in
@@ -90,7 +87,7 @@ closed j (more rs r) m out e =
     record { before = p .0; children = p .1; child = r; was = ap (λ (x : Rules). more x r) (sym c); sized = omega arith; becomes = cc }
 
 -- what rules behind one another have, stands behind one another
-sizes-chain : (ps rs : Rules) → sizes (chain ps rs) ≡ sizes ps + sizes rs
+pub sizes-chain : (ps rs : Rules) → sizes (chain ps rs) ≡ sizes ps + sizes rs
 unfolding chain size
 sizes-chain ps nil = omega arith
 sizes-chain ps (more rs r) = let h = sizes-chain ps rs in omega arith

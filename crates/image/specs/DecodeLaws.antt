@@ -2,7 +2,7 @@
 use mathlib.Core.Path.{_≡_, refl, sym, ap}
 use mathlib.Core.Bool.{true}
 use mathlib.Core.List.{List, [], _∷_, _++_, append-nil}
-use mathlib.Core.Option.{Option, none, some}
+use mathlib.Core.Option.{Option, none, some, Option·none-ne-some}
 use Prim.Native.Nat.{ℕ, zero, suc, _+_, _-_, _*_, _/_, _%_, _^_, _≤_, _<_}
 use native.Mathlib.Nat.{add-zero}
 use native.Mathlib.Omega.{arith}
@@ -16,7 +16,7 @@ use Rattle.image.specs.Encode.{leafKind, joinKind, tag, leafArg, joinArg
 use Rattle.image.specs.Decode.{nodeAt, Meaning, aLeaf, aJoin, nothing, meaning, cellAt, place, build, only, nextName, nameEnd, endsAt, sized, decodeParts, decode}
 use Rattle.image.specs.BytesLaws.{Has, has-rest, at-number, number-below}
 use Rattle.image.specs.EncodeLaws.{size-pos, length-tags, length-tagsAll, length-args, length-argsAll, length-encode, Laid, laid-append, laid-image}
-use Rattle.image.specs.BuildLaws.{none-some, when-some, bind-some, chain, closed, sizes-close, names-close, tags-close, args-close, small-close}
+use Rattle.image.specs.BuildLaws.{when-some, bind-some, chain, closed, sizes-close, names-close, tags-close, args-close, small-close}
 use Rattle.image.specs.TestLaws.{sized-true}
 
 -- names do not run backwards, and a name ends where the next one may begin
@@ -130,7 +130,7 @@ module _ (s : List ℕ) (n m : ℕ) (bytes : AllBytes s) (long : length s ≡ 4 
       let pos = size-pos (c .child) in
       let z : nodeAt s n i .size ≡ suc (sizes (c .children) + size (c .child)) = omega arith in
       rw (c .becomes, ← d .2) (join-taken i t (c .before) (c .children) (c .child) j lt (d .0) z (d .1) (rw (c .was) at h))
-  place-taken i t u rs out nothing lt d e h = absurd (none-some e)
+  place-taken i t u rs out nothing lt d e h = absurd (Option·none-ne-some _ e)
 
   taken : (i t : ℕ) (rs : Rules) → i ≤ n → t ≤ m → build (cellAt s n) i ≡ some rs → nameEnd (nodeAt s n) i ≡ some t → Taken i t rs
   unfolding build cellAt nameEnd size names tags args Small Has packed
@@ -146,9 +146,9 @@ module _ (s : List ℕ) (n m : ℕ) (bytes : AllBytes s) (long : length s ≡ 4 
 
 -- the tests of a whole image
 pub only-some : (rs : Rules) (r : Rule) → only rs ≡ some r → rs ≡ more nil r
-only-some nil r e = absurd (none-some e)
+only-some nil r e = absurd (Option·none-ne-some _ e)
 only-some (more nil q) r e = cc
-only-some (more (more rs p) q) r e = absurd (none-some e)
+only-some (more (more rs p) q) r e = absurd (Option·none-ne-some _ e)
 
 pub ends-some : (o : Option ℕ) (m : ℕ) → endsAt o m ≡ true → o ≡ some m
 ends-some none m e = let z : _≡_ {A = ℕ} 0 1 = cc in absurd (omega arith)

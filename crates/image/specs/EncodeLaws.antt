@@ -5,10 +5,21 @@ use Prim.Native.Nat.{ℕ, _+_, _*_, _<_}
 use native.Mathlib.Omega.{arith}
 use lib.ListN.{length, length-append}
 use lib.Seq.{take-length}
-use Rattle.image.specs.Rule.{Rule, leaf, node, Rules, nil, more, size, sizes}
+use Rattle.image.specs.Rule.{Leaf, named, olderThan, readable, Join, atLeast, all, any, Rule, leaf, node, Rules, nil, more, size, sizes}
 use Rattle.image.specs.Bytes.{leBytes, packed}
-use Rattle.image.specs.Encode.{names, namesAll, tags, tagsAll, args, argsAll, imageOf, encode}
+use Rattle.image.specs.Encode.{leafKind, joinKind, names, namesAll, tags, tagsAll, args, argsAll, imageOf, encode}
 use Rattle.image.specs.BytesLaws.{length-packed, packed-append, Has, has-append, has-front, has-back}
+
+-- a kind is a byte
+pub leaf-kind : (l : Leaf) → leafKind l < 256
+leaf-kind (named w) = omega arith
+leaf-kind (olderThan d) = omega arith
+leaf-kind (readable d) = omega arith
+
+pub join-kind : (j : Join) → joinKind j < 256
+join-kind (atLeast k) = omega arith
+join-kind all = omega arith
+join-kind any = omega arith
 
 pub size-pos : (r : Rule) → 0 < size r
 unfolding size

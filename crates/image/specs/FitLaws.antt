@@ -8,11 +8,13 @@ use native.Mathlib.Nat.{add-zero, add-suc, add-sub-of-le}
 use native.Mathlib.Omega.{arith}
 use lib.Dec.{leb, eqb}
 use lib.ListN.{take, drop}
-use borrow.Author.Tests.{lt-leb, eq-eqb, ne-eqb, eqb-true}
+use borrow.Author.Tests.{lt-leb, eq-eqb, ne-eqb}
 use Rattle.image.specs.Rule.{Leaf, named, olderThan, readable, Join, atLeast, all, any, Rule, leaf, Rules, nil, more, size, sizes}
 use Rattle.image.specs.Decode.{when, bind, isSome, Node, nodeAt, Meaning, aLeaf, aJoin, nothing, argument0, meaning, Cell, cellAt, split, close, place, build, only}
+use Rattle.image.specs.Standing.{Stands, StandAll}
+use Rattle.image.specs.StandingLaws.{root-size, Built, built}
 use Rattle.image.specs.EncodeLaws.{size-pos}
-use Rattle.image.specs.BuildLaws.{none-some, when-some, bind-some, chain, split-zero, split-more, closed, sizes-close}
+use Rattle.image.specs.BuildLaws.{split-zero, split-more, closed, sizes-close}
 
 pub isSome-true : {A : Type 0} (o : Option A) → isSome o ≡ true → (a : A) × (o ≡ some a)
 isSome-true none e = let z : _≡_ {A = ℕ} 0 1 = cc in absurd (omega arith)
@@ -66,66 +68,23 @@ close-split j (more rs r) (suc m) h = by (leb (size r) (suc m)) (split rs (suc m
     by true o f g = isSome-bind o f ∙ sym (isSome-bind o g)
     by false o f g = refl
 
--- each of the rules ends at a cell that says its size
-Ends : (ℕ → Cell) → Rules → Type 0
-unfolding size
-Ends f nil = Unit {0}
-Ends f (more rs r) = Ends f rs × (f (sizes rs + size r - 1) .size ≡ size r)
-
-ends-chain : (f : ℕ → Cell) (ps rs : Rules) → Ends f (chain ps rs) → Ends f ps
-unfolding Ends chain
-ends-chain f ps nil h = h
-ends-chain f ps (more rs r) h = ends-chain f ps rs (h .0)
-
--- such rules, which have i nodes in all
-record Built (f : ℕ → Cell) (i : ℕ) (rs : Rules) : Type 0 where
-  ends : Ends f rs
-  sized : sizes rs ≡ i
-
 module _ (f : ℕ → Cell) where
-  place-built : (i : ℕ) (w : Meaning) (rs out : Rules) → place w (f i .size) rs ≡ some out → Built f i rs → Built f (suc i) out
-  unfolding place Ends
-  place-built i (aLeaf l) rs out e b =
-      let (t, e₁) = when-some (eqb (f i .size) 1) (some (more rs (leaf l))) e in
-      let p : out ≡ more rs (leaf l) = cc in
-      let q : sizes rs + 1 - 1 ≡ i = omega arith in
-      rw p (record { ends = (b .ends, rw q (eqb-true (f i .size) 1 t)); sized = omega arith })
-  place-built i (aJoin j) rs out e b =
-      let c = closed j rs (f i .size - 1) out e in
-      let k = sizes-close j (c .before) (c .children) (c .child) in
-      let was = ap sizes (c .was) in
-      let pos = size-pos (c .child) in
-      let q : sizes (c .before) + suc (sizes (c .children) + size (c .child)) - 1 ≡ i = omega arith in
-      let z : f i .size ≡ suc (sizes (c .children) + size (c .child)) = omega arith in
-      let h = rw (c .was) at (b .ends) in
-      rw (c .becomes) (record { ends = (ends-chain f (c .before) (c .children) (h .0), rw q z); sized = omega arith })
-  place-built i nothing rs out e b = absurd (none-some e)
-
-  -- what the first i cells make
-  built : (i : ℕ) (rs : Rules) → build f i ≡ some rs → Built f i rs
-  unfolding build Ends
-  built zero rs e =
-      let p : rs ≡ nil = cc in
-      rw p (record { ends = tt; sized = refl })
-  built (suc i) out e =
-      let (rs, e₁, e₂) = bind-some (build f i) _ e in
-      place-built i (f i .what) rs out e₂ (built i rs e₁)
-
-  -- the last of such rules
+  -- the last of the rules that have the first i cells
   record Last (i : ℕ) (rs : Rules) : Type 0 where
     before : Rules
     child : Rule
     is : rs ≡ more before child
-    ends : Ends f before
+    standing : StandAll before f 0
     sized : sizes before + size child ≡ i
     says : f (i - 1) .size ≡ size child
 
   last : (i : ℕ) (rs : Rules) → 0 < i → Built f i rs → Last i rs
-  unfolding Ends
+  unfolding size Stands
   last i nil h b = absurd (omega (arith, b .sized))
   last i (more rs r) h b =
       let p : sizes rs + size r ≡ i = b .sized in
-      record { before = rs; child = r; is = refl; ends = b .ends .0; sized = p; says = rw p at (b .ends .1) }
+      let q : 0 + sizes rs + size r - 1 ≡ i - 1 = omega arith in
+      record { before = rs; child = r; is = refl; standing = b .standing .0; sized = p; says = rw q at (root-size r f (0 + sizes rs) (b .standing .1)) }
 
 -- of the rules that the first `end` cells make, those that are left when the walk back has come to `at`
 pub record Left (f : ℕ → Cell) (from end at : ℕ) : Type 0 where
@@ -166,7 +125,7 @@ module _ (f : ℕ → Cell) (from end : ℕ) where
         let p : at - from - size (d .child) ≡ at - z - from = omega arith in
         record {
           rest = d .before;
-          built = record { ends = d .ends; sized = omega arith };
+          built = record { standing = d .standing; sized = omega arith };
           same = λ rs e. l .same rs e ∙ ap (λ (x : Rules). isSome (split x (at - from))) (d .is) ∙ rw (← p) (split-on (d .before) (d .child) (at - from) (omega arith) (omega arith));
         }
 

@@ -7,6 +7,8 @@ pub mod Encode
 pub mod EncodeLaws
 pub mod Decode
 pub mod BuildLaws
+pub mod Standing
+pub mod StandingLaws
 pub mod FitLaws
 pub mod NameRunLaws
 pub mod TestLaws

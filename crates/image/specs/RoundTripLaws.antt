@@ -14,7 +14,7 @@ use Rattle.image.specs.Bytes.{packed}
 use Rattle.image.specs.Encode.{leafKind, joinKind, tag, leafArg, joinArg, leafName, names, namesAll, tags, tagsAll, args, argsAll, encode, Small, SmallAll, Fits}
 use Rattle.image.specs.Decode.{Node, nodeAt, aLeaf, aJoin, meaning, cellAt, place, build, nextName, nameEnd, sized, decodeParts, decode}
 use Rattle.image.specs.BytesLaws.{Has, has-rest, number-at}
-use Rattle.image.specs.EncodeLaws.{size-pos, length-tagsAll, length-argsAll, length-encode, Laid, laid-cut, encode-laid}
+use Rattle.image.specs.EncodeLaws.{leaf-kind, join-kind, size-pos, length-tagsAll, length-argsAll, length-encode, Laid, laid-cut, encode-laid}
 use Rattle.image.specs.BuildLaws.{chain, close-chain}
 use Rattle.image.specs.TestLaws.{true-sized}
 
@@ -53,16 +53,6 @@ leaf-below : (l : Leaf) (t : ℕ) → leafArg l 0 < 2 ^ 64 → t + length (leafN
 leaf-below (named w) t h k = omega arith
 leaf-below (olderThan d) t h k = h
 leaf-below (readable d) t h k = h
-
-leaf-kind : (l : Leaf) → leafKind l < 256
-leaf-kind (named w) = omega arith
-leaf-kind (olderThan d) = omega arith
-leaf-kind (readable d) = omega arith
-
-join-kind : (j : Join) → joinKind j < 256
-join-kind (atLeast k) = omega arith
-join-kind all = omega arith
-join-kind any = omega arith
 
 module _ (s : List ℕ) (n : ℕ) where
   -- a node that is laid is read

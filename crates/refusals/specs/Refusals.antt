@@ -1,5 +1,5 @@
 -- Document 01's table of refusals: a number for each cause, and its word. Assumes nothing.
-use Prim.Native.Nat.{ℕ, _-_}
+use Prim.Native.Nat.{ℕ}
 use Prim.Native.String.{String}
 use mathlib.Core.List.{List, [], _∷_, _++_}
 use lib.ListN.{take, getD}

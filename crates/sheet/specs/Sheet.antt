@@ -19,7 +19,7 @@ use Rattle.numbers.specs.declared.Parsed.{Parsed}
 use Rattle.numbers.specs.declared.Parsed.the-variants.{Value, Invalid}
 use Rattle.numbers.specs.Count.{countOf}
 use Rattle.numbers.specs.Duration.{durationOf}
-use Rattle.image.specs.Rule.{Leaf, named, olderThan, readable, Join, atLeast, all, any, Rule, leaf, node, Rules, nil, more, size}
+use Rattle.image.specs.Rule.{named, olderThan, readable, Join, atLeast, all, any, Rule, leaf, node, nil, more, size}
 use Rattle.grammar.specs.Grammar.{after, firstPlace, dueIn, olderThanHead, readableHead, atLeastHead, functionOf, bareLeaf, headIn, leftRules, chain, orIn}
 use Rattle.grammar.specs.Reading.{Read, rule, refused, parseOf, readOf}
 

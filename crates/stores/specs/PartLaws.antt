@@ -5,10 +5,9 @@ use mathlib.Core.List.{List, [], _∷_}
 use Prim.Native.Nat.{ℕ, _+_, _≤_, _<_}
 use native.Mathlib.Numerals.{add-one}
 use native.Mathlib.Omega.{arith}
-use borrow.Author.Tests.{lt-ltb, le-ltb, le-leb, lt-leb}
+use borrow.Author.Tests.{le-leb, lt-leb}
 use lib.ListN.{length, take, drop, getD, length-drop, drop-of-length-le}
 use lib.Seq.{length-take-le, drop-cons, getD-take, getD-drop}
-use Rattle.image.specs.Encode.{allAscii}
 use Rattle.stores.specs.Stores.{sum, allAtMost}
 
 -- n bytes from a position on
@@ -43,18 +42,3 @@ module _ (s : List ℕ) (at n k : ℕ) (fits : at + n ≤ length s) where
       pub most-off : most < getD s (at + k) 0 → allAtMost most (drop k (take n (drop at s))) ≡ false
       unfolding allAtMost
       most-off h = rw (part-at, lt-leb (getD s (at + k) 0) most h)
-
--- all bytes from a position on
-module _ (s : List ℕ) (i : ℕ) where
-  pub ascii-end : length s ≤ i → allAscii (drop i s) ≡ true
-  unfolding allAscii
-  ascii-end h = rw (drop-of-length-le s h)
-
-  module _ (lt : i < length s) where
-    pub ascii-on : getD s i 0 < 128 → allAscii (drop i s) ≡ allAscii (drop (i + 1) s)
-    unfolding allAscii
-    ascii-on h = rw (add-one, drop-cons s i 0 lt, lt-ltb (getD s i 0) 128 h)
-
-    pub ascii-off : 128 ≤ getD s i 0 → allAscii (drop i s) ≡ false
-    unfolding allAscii
-    ascii-off h = rw (drop-cons s i 0 lt, le-ltb (getD s i 0) 128 h)

@@ -1,10 +1,10 @@
 -- Laws of well-made tables and lists: each test of the bytes, and that their names lie within them. Assumes nothing.
-use mathlib.Core.Path.{_≡_, refl, sym, _∙_}
-use mathlib.Core.Bool.{Bool, true, false, not, _&&_, and-false, false≢true}
+use mathlib.Core.Path.{_≡_, refl}
+use mathlib.Core.Bool.{Bool, true, false, _&&_, and-false, false≢true}
 use mathlib.Core.List.{List}
 use Prim.Native.Nat.{ℕ, _+_, _*_, _≤_, _<_}
 use native.Mathlib.Omega.{arith}
-use borrow.Author.Tests.{leb-true, eqb-true, le-leb, lt-leb, eq-eqb, ne-eqb, not-false}
+use borrow.Author.Tests.{leb-true, eqb-true, le-leb, lt-leb, eq-eqb, ne-eqb}
 use lib.Dec.{eqb, leb}
 use lib.ListN.{length, take, drop}
 use Rattle.image.specs.Bytes.{leAt}
@@ -54,7 +54,3 @@ well-made-laid most s h =
     let q = eqb-true (length s) (4 + 2 * countIn s + totalIn s) long in
     let r = eqb-true (sum (lengthsIn s)) (totalIn s) filled in
     record { arrays = omega arith; names = omega arith; few = p }
-
--- r is what `well_made` answered, and it was not no
-pub made-laid : (most : ℕ) (s : List ℕ) {r : Bool} → r ≡ wellMade most s → not r ≡ false → Laid s
-made-laid most s {r} e n = well-made-laid most s (sym e ∙ not-false r n)

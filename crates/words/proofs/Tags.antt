@@ -1,6 +1,6 @@
 -- What a token's tag says of it, where the program takes one variant out and has another before it. Assumes nothing.
 use mathlib.Core.Path.{_≡_, refl}
-use mathlib.Core.List.{List, [], _∷_}
+use mathlib.Core.List.{[], _∷_}
 use types.Run.{OneOf, miss}
 use denote.Enum.Declared.{tagOf}
 use Rattle.words.proofs.Token.{the-type}

@@ -20,7 +20,6 @@ use Rattle.words.specs.declared.Token.the-variants.{End, Open, Close, Co
 use Rattle.words.specs.declared.Next.{Next}
 use Rattle.words.specs.declared.Next.the-variants.{Off, To}
 use Rattle.words.specs.declared.Scanned.{Scanned}
-use Rattle.words.specs.declared.Scanned.the-variants.{Clean}
 use Rattle.words.specs.Token.{
   other,
   doubled,

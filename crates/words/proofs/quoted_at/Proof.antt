@@ -1,5 +1,4 @@
 -- `words::quoted_at` meets its contract. Assumes nothing.
-use mathlib.Core.Path.{sym}
 use borrow.Author.Needs.{needs}
 use borrow.Author.Tests.{lt-ltb, le-ltb}
 use Rattle.words.specs.Token.{quotedAt, quotedTo}

@@ -1,6 +1,6 @@
 -- The proof of the cycle of calls {parse_and, parse_or, parse_primary}: the measure is three times the tokens left, and the
 -- function's level. Assumes nothing.
-use mathlib.Core.Path.{_≡_, refl, sym, ap, _∙_}
+use mathlib.Core.Path.{refl, sym, ap, _∙_}
 use Prim.Native.Nat.{ℕ, _+_, _*_, _<_}
 use native.Mathlib.Omega.{arith}
 use borrow.Author.Needs.{needs}
@@ -14,7 +14,7 @@ use Rattle.expressions.specs.Parses.{arrays}
 use Rattle.grammar.specs.TokenListLaws.{first-place, after-off, and-signed, or-signed, comma-signed, close-signed}
 use Rattle.grammar.specs.HeadLaws.{head-is, head-ahead}
 use Rattle.expressions.specs.ArrayLaws.{front, still, long-after}
-use Rattle.expressions.specs.ChainLaws.{leaf-kind, join-kind}
+use Rattle.image.specs.EncodeLaws.{leaf-kind, join-kind}
 use Rattle.expressions.specs.ParseLaws.{
   gave-done,
   gave-refused,
