@@ -13,7 +13,6 @@ use Rattle.stores.specs.declared.Twin.the-variants.{No, At}
 use Rattle.image.specs.Standing.{Stands}
 use Rattle.decide.specs.Evict.{evict}
 use Rattle.decide.specs.Decide.{saying, listNames, decideOf}
-use Rattle.decide.specs.Subtree.{Inside}
 use Rattle.decide.specs.DecideLaws.{decide-16, decide-17, decide-18, decide-19, decide-says}
 use Rattle.decide.specs.InsideLaws.{decode-whole}
 use Rattle.decide.specs.declared.Decision.the-variants.{Refused}
@@ -25,9 +24,6 @@ module _ (i s : List ℕ) (a : ℕ) (l : List ℕ) where
 
   -- the bytes are an image
   module _ (image : isSome (decode i) ≡ true) where
-    pub image-inside : {n : ℕ} → n ≡ leAt i 0 2 → Inside i n 0 n
-    image-inside p = let (r, e) = isSome-true (decode i) image in decode-whole i p e .inside
-
     pub refused-17 : isTable s ≡ false → Refused (refusal badStoreTable 0) ≡ decideOf i s a l
     refused-17 e = let (r, p) = isSome-true (decode i) image in sym (decide-17 i s a l p e)
 

@@ -6,9 +6,7 @@ use mathlib.Core.Option.{Option, none, some}
 use Rattle.refusals.specs.Refusals.{refusal, badImage, badStoreTable, twinName, badConfirmedList}
 use Rattle.image.specs.Rule.{Rule}
 use Rattle.image.specs.Decode.{decode}
-use Rattle.stores.specs.Stores.{isTable, isList, entriesIn, namesOf, twinOf}
-use Rattle.stores.specs.declared.Twin.{Twin}
-use Rattle.stores.specs.declared.Twin.the-variants.{No, At}
+use Rattle.stores.specs.Stores.{isTable, isList, entriesIn, namesOf, twinOf, unlessTwin}
 use Rattle.decide.specs.Evict.{worldOf, evict}
 use Rattle.decide.specs.declared.Decision.{Decision}
 use Rattle.decide.specs.declared.Decision.the-variants.{Evict, Keep, Refused}
@@ -21,17 +19,12 @@ saying false = Keep
 abbrev pub listNames : List ℕ → List (List ℕ)
 listNames l = namesOf 0 0 (entriesIn l)
 
--- 18, then `rest`
-abbrev pub unlessTwin : Twin → Decision → Decision
-unlessTwin No rest = rest
-unlessTwin (At i) rest = Refused (refusal twinName i)
-
 -- 16, then 17, 18 and 19, then what the rule says
 abbrev pub decideRule : Option Rule → List ℕ → ℕ → List ℕ → Decision
 decideRule none stores age list = Refused (refusal badImage 0)
 decideRule (some r) stores age list =
     cond (isTable stores)
-    (unlessTwin (twinOf (entriesIn stores))
+    (unlessTwin (λ i. Refused (refusal twinName i)) (twinOf (entriesIn stores))
     (cond (isList list) (saying (evict r (worldOf (entriesIn stores) age (listNames list)))) (Refused (refusal badConfirmedList 0))))
     (Refused (refusal badStoreTable 0))
 

@@ -1,18 +1,20 @@
 -- The rule that an image decodes to stands in the image's nodes, and its names lie inside. Assumes nothing.
 use mathlib.Core.Path.{_≡_}
+use mathlib.Core.Bool.{true}
 use mathlib.Core.List.{List}
 use mathlib.Core.Logic.{⊎-elim}
 use mathlib.Core.Option.{some}
-use Prim.Native.Nat.{ℕ, zero, suc, _+_, _-_, _*_, _/_, _%_, _≤_, _<_}
+use Prim.Native.Nat.{ℕ, zero, suc, _+_, _*_, _/_, _%_, _≤_, _<_}
 use native.Mathlib.Nat.{eq-or-lt-of-le}
 use native.Mathlib.Omega.{arith}
 use lib.ListN.{drop}
 use Rattle.image.specs.Rule.{Rule, size}
 use Rattle.image.specs.Bytes.{leAt}
 use Rattle.image.specs.Encode.{allAscii}
-use Rattle.image.specs.Decode.{Node, nodeAt, cellAt, build, only, nameEnd, endsAt, decodeParts, decode}
+use Rattle.image.specs.Decode.{isSome, Node, nodeAt, cellAt, build, only, nameEnd, endsAt, decodeParts, decode}
 use Rattle.image.specs.Decode.{sized as lengths}
 use Rattle.image.specs.BuildLaws.{when-some, bind-some}
+use Rattle.image.specs.FitLaws.{isSome-true}
 use Rattle.image.specs.TestLaws.{sized-true}
 use Rattle.image.specs.StandingLaws.{built}
 use Rattle.image.specs.DecodeLaws.{next-le, ends-some, only-some}
@@ -59,3 +61,6 @@ parts-whole s n m r e =
 pub decode-whole : (s : List ℕ) {n : ℕ} {r : Rule} → n ≡ leAt s 0 2 → decode s ≡ some r → Whole s n r
 unfolding decode
 decode-whole s {n} {r} p e = parts-whole s n (leAt s 2 2) r (rw p e)
+
+pub image-inside : (s : List ℕ) {n : ℕ} → isSome (decode s) ≡ true → n ≡ leAt s 0 2 → Inside s n 0 n
+image-inside s is p = let (r, e) = isSome-true (decode s) is in decode-whole s p e .inside

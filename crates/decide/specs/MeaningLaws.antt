@@ -2,7 +2,7 @@
 use mathlib.Core.Path.{_≡_, sym}
 use mathlib.Core.Bool.{Bool}
 use mathlib.Core.List.{List}
-use Prim.Native.Nat.{ℕ, zero, suc, _+_, _-_, _*_, _/_, _%_, _≤_}
+use Prim.Native.Nat.{ℕ, zero, suc, _+_, _*_, _/_, _%_, _≤_}
 use native.Mathlib.Omega.{arith}
 use lib.Dec.{leb, eqb}
 use lib.ListN.{length, take, drop}
@@ -63,14 +63,12 @@ module _ (s : List ℕ) (n : ℕ) where
 
   -- a leaf, by its kind
   module _ {k : ℕ} (a : ℕ) (v : World) (l : Leaf) (e : meaning s n k a ≡ aLeaf l) where
-    -- the name's bytes run from where it starts up to where it ends
-    pub says-named : {b : Bool} → k ≡ 0 → (let at = 4 + 12 * n + a / 65536 in b ≡ has (take (at + a % 65536 - at) (drop at s)) (v .names)) → b ≡ leafSays l v
+    pub says-named : {b : Bool} {w : List ℕ} → k ≡ 0 → w ≡ take (a % 65536) (drop (4 + 12 * n + a / 65536) s) → b ≡ has w (v .names) → b ≡ leafSays l v
     unfolding meaning leafSays
-    says-named p h =
+    says-named p named-as h =
         let m : aLeaf (named (take (a % 65536) (drop (4 + 12 * n + a / 65536) s))) ≡ aLeaf l = rw p at e in
         let q : l ≡ named (take (a % 65536) (drop (4 + 12 * n + a / 65536) s)) = cc in
-        let z : 4 + 12 * n + a / 65536 + a % 65536 - (4 + 12 * n + a / 65536) ≡ a % 65536 = omega arith in
-        rw q (rw z at h)
+        rw q (rw named-as at h)
 
     pub says-older : k ≡ 1 → leb a (v .age) ≡ leafSays l v
     unfolding meaning leafSays

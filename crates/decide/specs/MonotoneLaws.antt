@@ -7,7 +7,7 @@ use Prim.Native.Nat.{ℕ, suc, _≤_}
 use native.Mathlib.Omega.{arith}
 use lib.ListN.{length}
 use borrow.Author.Tests.{leb-true, le-leb, eqb-true, eq-eqb}
-use Rattle.image.specs.Rule.{Leaf, named, olderThan, readable, Join, atLeast, all, any, Rule, leaf, node, Rules, nil, more}
+use Rattle.image.specs.Rule.{Leaf, named, olderThan, readable, Join, atLeast, all, any, Rule, leaf, node, Rules, nil, more, leafNames, namesIn, namesInAll}
 use Rattle.stores.specs.Names.{has}
 use Rattle.stores.specs.Stores.{Entry, isReadable, readyCount}
 use Rattle.decide.specs.Evict.{World, worldOf, leafSays, yeses, joinSays, evict, answers}
@@ -23,7 +23,7 @@ keep-down : {x y : Bool} → (x ≡ true → y ≡ true) → y ≡ false → x �
 keep-down {x = true} f e = absurd (true≢false (sym (f refl) ∙ e))
 keep-down {x = false} f e = refl
 
-both-ways : {x y : Bool} → (x ≡ true → y ≡ true) → (y ≡ true → x ≡ true) → x ≡ y
+pub both-ways : {x y : Bool} → (x ≡ true → y ≡ true) → (y ≡ true → x ≡ true) → x ≡ y
 both-ways {x = true} f g = sym (f refl)
 both-ways {x = false} f g = sym (keep-down g refl)
 
@@ -62,21 +62,6 @@ join-up any {xs} {ys} g e =
     says-any ys refl ∙ le-leb 1 (yeses ys) (omega arith)
 
 -- ---- rules
-
--- the names of stores that a rule has
-abbrev pub leafNames : Leaf → List (List ℕ)
-leafNames (named w) = w ∷ []
-leafNames (olderThan d) = []
-leafNames (readable k) = []
-
-unfoldable mutual
-  pub namesIn : Rule → List (List ℕ)
-  namesIn (leaf l) = leafNames l
-  namesIn (node j rs r) = namesInAll rs ++ namesIn r
-
-  pub namesInAll : Rules → List (List ℕ)
-  namesInAll nil = []
-  namesInAll (more rs r) = namesInAll rs ++ namesIn r
 
 -- from one world to another: those of some names that are confirmed in the first are in the second
 abbrev pub Kept : World → World → List (List ℕ) → Type 0

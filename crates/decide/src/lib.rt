@@ -14,6 +14,7 @@ ghost use Rattle.image.specs.Standing.{Stands};
 ghost use Rattle.decide.specs.Subtree.{Inside, worldIn};
 use image::le2;
 use image::valid::is_image;
+use image::valid::name_of;
 use image::valid::node_at;
 use refusals::Refusal;
 use stores::Twin;
@@ -52,11 +53,9 @@ fn leaf_says(image: &[u8], n: usize, kind: u64, arg: u64, list: &[u8], view: Vie
 {
     match kind {
         0 => {
-            let start = 4 + 12 * n + (arg / 65536) as usize;
-            let end = start + (arg % 65536) as usize;
             let lo = view.lo;
             let hi = view.hi;
-            is_among(&image[start..end], list, count_of(list), lo, hi)
+            is_among(name_of(image, n, arg), list, count_of(list), lo, hi)
         }
         1 => arg <= view.age,
         2 => arg <= view.ready,

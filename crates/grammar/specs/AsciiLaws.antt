@@ -1,17 +1,18 @@
--- A text with no foreign byte is ASCII, and so are its parts and what is put together of such. Assumes nothing.
+-- A text with no foreign byte is ASCII, and so are its parts. Assumes nothing.
 use mathlib.Core.Path.{_≡_, refl}
-use mathlib.Core.Bool.{Bool, true, false, cond, _&&_, and-eq-true-iff, and-false}
-use mathlib.Core.List.{List, [], _∷_, _++_}
-use Prim.Native.Nat.{ℕ, zero, suc, _-_, _≤_}
+use mathlib.Core.Bool.{Bool, true, false, cond, _&&_, and-false}
+use mathlib.Core.List.{List, [], _∷_}
+use Prim.Native.Nat.{ℕ, suc, _-_, _≤_}
 use native.Mathlib.Omega.{arith}
 use borrow.Author.Tests.{ltb-false, le-leb, lt-leb, ne-eqb}
 use lib.Dec.{T, ltb, leb, eqb, ltb→lt}
-use lib.ListN.{length, take, drop}
+use lib.ListN.{length, drop}
 use Rattle.ascii.specs.Text.{part, run, runEnd}
 use Rattle.ascii.specs.Letters.{isDigit, isLetter}
 use Rattle.classes.specs.Class.{classOf, foreign}
 use Rattle.words.specs.Token.{ascii}
 use Rattle.image.specs.Encode.{allAscii}
+use Rattle.image.specs.AsciiLaws.{take-ascii, drop-ascii}
 
 -- "foreign (128 up)"
 module _ (b : ℕ) (h : 128 ≤ b) where
@@ -47,24 +48,7 @@ pub text-ascii : (s : List ℕ) → length s ≤ runEnd ascii s 0 → allAscii s
 unfolding runEnd
 text-ascii s h = run-ascii s (omega arith)
 
--- parts, and what is put together
-take-ascii : (n : ℕ) (s : List ℕ) → allAscii s ≡ true → allAscii (take n s) ≡ true
-unfolding allAscii
-take-ascii zero s h = refl
-take-ascii (suc n) [] h = refl
-take-ascii (suc n) (b ∷ s) h = let i = and-eq-true-iff (ltb b 128) (allAscii s) .0 h in rw (i .0) (take-ascii n s (i .1))
-
-drop-ascii : (n : ℕ) (s : List ℕ) → allAscii s ≡ true → allAscii (drop n s) ≡ true
-unfolding allAscii
-drop-ascii zero s h = h
-drop-ascii (suc n) [] h = refl
-drop-ascii (suc n) (b ∷ s) h = drop-ascii n s (and-eq-true-iff (ltb b 128) (allAscii s) .0 h .1)
-
+-- so are its parts
 pub part-ascii : (s : List ℕ) (a b : ℕ) → allAscii s ≡ true → allAscii (part s a b) ≡ true
 unfolding part
 part-ascii s a b h = take-ascii (b - a) (drop a s) (drop-ascii a s h)
-
-pub append-ascii : (s t : List ℕ) → allAscii s ≡ true → allAscii t ≡ true → allAscii (s ++ t) ≡ true
-unfolding allAscii
-append-ascii [] t h k = k
-append-ascii (b ∷ s) t h k = let i = and-eq-true-iff (ltb b 128) (allAscii s) .0 h in rw (i .0) (append-ascii s t (i .1) k)

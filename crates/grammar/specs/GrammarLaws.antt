@@ -56,11 +56,11 @@ begun-fewer s ts (refused f) b e = let z : _≡_ {A = ℕ} 0 1 = cc in absurd (o
 made-fewer : (s : List ℕ) (ts : List Token) (g : Got) {r : Rule} {us : List Token} → Holds (MadeRule s ts) g → g ≡ got r us → length us < length ts
 made-fewer s ts g m e = let n = rw e at m in n .taken .fewer
 
-made-left : (s : List ℕ) (ts : List Token) (g : Got) → Holds (MadeRule s ts) g → leftOf g ≤ length ts - 1
+pub made-left : (s : List ℕ) (ts : List Token) (g : Got) → Holds (MadeRule s ts) g → leftOf g ≤ length ts - 1
 made-left s ts (got r us) m = omega (arith, m .taken .fewer)
 made-left s ts (bad f) m = omega arith
 
-onto-left : (j : Join) (l : Rule) (g : Got) → leftOf (onto j l g) ≡ leftOf g
+pub onto-left : (j : Join) (l : Rule) (g : Got) → leftOf (onto j l g) ≡ leftOf g
 onto-left j l (got r us) = refl
 onto-left j l (bad f) = refl
 

@@ -9,3 +9,4 @@ pub mod FitsLaws
 pub mod Heads
 pub mod TokenListLaws
 pub mod HeadLaws
+pub mod NumberLaws

@@ -1,5 +1,6 @@
 -- What the grammar takes of a list of tokens: fewer are left, each node of the rule had a token of its own that is not the end,
--- each byte of its names stands in a word, and 8 bytes hold its numbers. Assumes nothing.
+-- each byte of its names stands in a word, and 8 bytes hold its numbers. A primary that does not begin is refused with a number
+-- among 2 to 15. Assumes nothing.
 use mathlib.Core.Path.{_≡_, refl}
 use mathlib.Core.Bool.{Bool, true, false, cond}
 use mathlib.Core.List.{List, [], _∷_, _++_}
@@ -10,7 +11,8 @@ use lib.Dec.{eqb, ltb}
 use lib.ListN.{length, drop, length-append, length-take, length-drop}
 use Rattle.ascii.specs.Text.{bytes, part}
 use Rattle.ascii.specs.Letters.{equalIgnoringCase}
-use Rattle.refusals.specs.Refusals.{tooDeep}
+use Rattle.refusals.specs.declared.Refusal.{Refusal}
+use Rattle.refusals.specs.Refusals.{refusal, tooDeep}
 use Rattle.words.specs.declared.Token.{Token}
 use Rattle.words.specs.declared.Token.the-variants.{End, Open, Close, Comma, And, Or, Word, Fault}
 use Rattle.numbers.specs.declared.Parsed.{Parsed}
@@ -71,7 +73,8 @@ use Rattle.grammar.specs.Grammar.{
   primaryIn,
   listMore,
 }
-use Rattle.grammar.specs.AsciiLaws.{part-ascii, append-ascii}
+use Rattle.image.specs.AsciiLaws.{append-ascii}
+use Rattle.grammar.specs.AsciiLaws.{part-ascii}
 use Rattle.grammar.specs.SmallLaws.{count-small, duration-small}
 
 -- ---- what tokens can pay for: a node for each but the end, and a byte of a name for each byte of a word
@@ -124,11 +127,15 @@ by-after P k ts l m f = go (after k ts) refl
     go missing e = m
 
 -- ---- how a primary begins
+-- the refusals of a text: the table's 2 to 15
+abbrev pub Numbered : Refusal → Type 0
+Numbered f = (2 ≤ f .number) × (f .number ≤ 15)
+
 abbrev pub Begun : List ℕ → List Token → Head → Type 0
 Begun s ts (aLeaf l us) = Made s ts us 1 (leafName l) (leafArg l 0 < 2 ^ 64)
 Begun s ts (aGroup us) = Taken ts us 1 0
 Begun s ts (aList j p us) = Taken ts us 1 0 × (joinArg j < 2 ^ 64)
-Begun s ts (refused f) = Unit {0}
+Begun s ts (refused f) = Numbered f
 
 -- a part of a text is no longer than its bounds say, nor than the text
 part-short : (s : List ℕ) (a b : ℕ) → (length (part s a b) ≤ b - a) × (length (part s a b) ≤ length s)
@@ -137,30 +144,30 @@ part-short s a b = omega (arith, length-take (b - a) (drop a s), length-drop a s
 
 module _ (s : List ℕ) (ts : List Token) where
   closed-begun : (us : List Token) (p : ℕ) (then : List Token → Head) → ((vs : List Token) → Taken us vs 1 0 → Begun s ts (then vs)) → Begun s ts (closed (after closeSign us) p then)
-  closed-begun us p then f = by-after (λ r. Begun s ts (closed r p then)) closeSign us (omega arith) tt f
+  closed-begun us p then f = by-after (λ r. Begun s ts (closed r p then)) closeSign us (omega arith) (omega arith) f
 
-  valued-begun : (x : Parsed) (number p : ℕ) (then : ℕ → Head) → ((n : ℕ) → x ≡ Value n → Begun s ts (then n)) → Begun s ts (valued x number p then)
-  valued-begun (Value n) number p then f = f n refl
-  valued-begun Invalid number p then f = tt
+  valued-begun : (x : Parsed) (number p : ℕ) (then : ℕ → Head) → Numbered (refusal number p) → ((n : ℕ) → x ≡ Value n → Begun s ts (then n)) → Begun s ts (valued x number p then)
+  valued-begun (Value n) number p then l f = f n refl
+  valued-begun Invalid number p then l f = l
 
   due-begun : (us : List Token) (then : ℕ → List ℕ → List Token → Head) → ((p : ℕ) (w : List ℕ) (vs : List Token) → Taken us vs 1 0 → Begun s ts (then p w vs)) → Begun s ts (whenDue (dueIn s us) then)
   unfolding dueIn
-  due-begun [] then f = tt
-  due-begun (End p ∷ us) then f = tt
-  due-begun (Open p n ∷ us) then f = tt
-  due-begun (Close p n ∷ us) then f = tt
-  due-begun (Comma p n ∷ us) then f = tt
-  due-begun (And p n ∷ us) then f = tt
-  due-begun (Or p n ∷ us) then f = tt
+  due-begun [] then f = omega arith
+  due-begun (End p ∷ us) then f = omega arith
+  due-begun (Open p n ∷ us) then f = omega arith
+  due-begun (Close p n ∷ us) then f = omega arith
+  due-begun (Comma p n ∷ us) then f = omega arith
+  due-begun (And p n ∷ us) then f = omega arith
+  due-begun (Or p n ∷ us) then f = omega arith
   due-begun (Word p a b q n ∷ us) then f = f p (part s a b) us (omega arith)
-  due-begun (Fault g ∷ us) then f = tt
+  due-begun (Fault g ∷ us) then f = omega arith
 
   opened-begun : (d p : ℕ) (h : Head) → Begun s ts h → Begun s ts (opened d p h)
   opened-begun d p h b = go (ltb d 64)
     where
       go : (v : Bool) → Begun s ts (cond v h (refuse tooDeep p))
       go true = b
-      go false = tt
+      go false = omega arith
 
   -- a leaf that has no name
   number-made : {us : List Token} {n : ℕ} → Taken ts us 1 0 → n < 2 ^ 64 → Made s ts us 1 [] (n < 2 ^ 64)
@@ -173,19 +180,19 @@ module _ (s : List ℕ) (ts : List Token) where
     unfolding olderThanHead
     older-begun =
         due-begun us _ (λ p w vs i. closed-begun vs _ _ (λ xs j.
-        valued-begun (durationOf w) _ _ _ (λ n e. number-made (omega arith) (duration-small w e))))
+        valued-begun (durationOf w) _ _ _ (omega arith) (λ n e. number-made (omega arith) (duration-small w e))))
 
     readable-begun : Begun s ts (readableHead s us)
     unfolding readableHead
     readable-begun =
-        due-begun us _ (λ p w vs i. valued-begun (countOf w) _ _ _ (λ n e.
+        due-begun us _ (λ p w vs i. valued-begun (countOf w) _ _ _ (omega arith) (λ n e.
         closed-begun vs _ _ (λ xs j. number-made (omega arith) (count-small w e))))
 
     at-least-begun : (place : ℕ) → Begun s ts (atLeastHead s place us)
     unfolding atLeastHead
     at-least-begun place =
-        due-begun us _ (λ p w vs i. valued-begun (countOf w) _ _ _ (λ n e.
-        by-after (λ r. Begun s ts (afterComma r (firstPlace vs) (aList (atLeast n) place))) commaSign vs (omega arith) tt (λ xs j. (omega arith, count-small w e))))
+        due-begun us _ (λ p w vs i. valued-begun (countOf w) _ _ _ (omega arith) (λ n e.
+        by-after (λ r. Begun s ts (afterComma r (firstPlace vs) (aList (atLeast n) place))) commaSign vs (omega arith) (omega arith) (λ xs j. (omega arith, count-small w e))))
 
     call-begun : (place : ℕ) (f : Function) → Begun s ts (callHead s place f us)
     call-begun place OlderThan = older-begun
@@ -193,7 +200,7 @@ module _ (s : List ℕ) (ts : List Token) where
     call-begun place Any = (t, omega arith)
     call-begun place All = (t, omega arith)
     call-begun place AtLeast = at-least-begun place
-    call-begun place Unknown = tt
+    call-begun place Unknown = omega arith
 
   -- a word alone
   bare-made : (us : List Token) (a b : ℕ) → Taken ts us 1 (b - a) → Begun s ts (aLeaf (bareLeaf (part s a b)) us)
@@ -206,19 +213,19 @@ module _ (s : List ℕ) (ts : List Token) where
 
 pub head-begun : (s : List ℕ) (d : ℕ) (ts : List Token) → Begun s ts (headIn s d ts)
 unfolding headIn
-head-begun s d [] = tt
-head-begun s d (End p ∷ us) = tt
+head-begun s d [] = omega arith
+head-begun s d (End p ∷ us) = omega arith
 head-begun s d (Open p n ∷ us) = opened-begun s (Open p n ∷ us) d p (aGroup us) (omega arith)
-head-begun s d (Close p n ∷ us) = tt
-head-begun s d (Comma p n ∷ us) = tt
-head-begun s d (And p n ∷ us) = tt
-head-begun s d (Or p n ∷ us) = tt
+head-begun s d (Close p n ∷ us) = omega arith
+head-begun s d (Comma p n ∷ us) = omega arith
+head-begun s d (And p n ∷ us) = omega arith
+head-begun s d (Or p n ∷ us) = omega arith
 head-begun s d (Word p a b q n ∷ us) =
     let ts = Word p a b q n ∷ us in
     by-after (λ r. Begun s ts (wordHead s d p (part s a b) us r)) openSign us (omega arith)
     (bare-made s ts us a b (omega arith))
     (λ vs t. opened-begun s ts d _ _ (call-begun s ts vs (omega arith) p (functionOf (part s a b))))
-head-begun s d (Fault f ∷ us) = tt
+head-begun s d (Fault f ∷ us) = omega arith
 
 -- ---- rules
 abbrev pub MadeRule : List ℕ → List Token → Rule → List Token → Type 0

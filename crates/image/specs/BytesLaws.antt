@@ -84,7 +84,7 @@ bytes-take (suc k) [] h i = omega arith
 bytes-take (suc k) (b ∷ bs) h zero = h 0
 bytes-take (suc k) (b ∷ bs) h (suc i) = bytes-take k bs (λ j. h (suc j)) i
 
-bytes-at : (s : List ℕ) (at k : ℕ) → AllBytes s → AllBytes (take k (drop at s))
+pub bytes-at : (s : List ℕ) (at k : ℕ) → AllBytes s → AllBytes (take k (drop at s))
 bytes-at s at k h = bytes-take k (drop at s) (λ i. rw getD-drop (h (at + i)))
 
 pub at-number : (s : List ℕ) (at k : ℕ) → AllBytes s → at + k ≤ length s → Has s at (leBytes k (leAt s at k))

@@ -4,6 +4,7 @@ pub mod BytesLaws
 pub mod ByteReadLaws
 pub mod WrittenLaws
 pub mod Encode
+pub mod AsciiLaws
 pub mod EncodeLaws
 pub mod Decode
 pub mod BuildLaws

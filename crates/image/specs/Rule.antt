@@ -1,6 +1,6 @@
 -- Rules as trees: leaves, and combinators over children in text order. Assumes nothing.
 use Prim.Native.Nat.{ℕ, suc, _+_}
-use mathlib.Core.List.{List}
+use mathlib.Core.List.{List, [], _∷_, _++_}
 
 -- the leaf kinds: a store's name, a duration in milliseconds, a count
 pub data Leaf : Type 0 where
@@ -33,3 +33,18 @@ unfoldable mutual
   pub sizes : Rules → ℕ
   sizes nil = 0
   sizes (more rs r) = sizes rs + size r
+
+-- the names of stores that a rule has
+abbrev pub leafNames : Leaf → List (List ℕ)
+leafNames (named w) = w ∷ []
+leafNames (olderThan d) = []
+leafNames (readable k) = []
+
+unfoldable mutual
+  pub namesIn : Rule → List (List ℕ)
+  namesIn (leaf l) = leafNames l
+  namesIn (node j rs r) = namesInAll rs ++ namesIn r
+
+  pub namesInAll : Rules → List (List ℕ)
+  namesInAll nil = []
+  namesInAll (more rs r) = namesInAll rs ++ namesIn r

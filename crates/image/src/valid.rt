@@ -2,7 +2,7 @@
 ghost use mathlib.Core.Path.{_≡_};
 ghost use mathlib.Core.Option.{some};
 ghost use Prim.Native.Nat.{ℕ, suc, _+_, _-_, _*_, _<_, _≤_, _/_, _%_};
-ghost use lib.ListN.{length, drop};
+ghost use lib.ListN.{length, take, drop};
 ghost use Rattle.image.specs.Rule.{Rules};
 ghost use Rattle.image.specs.Encode.{allAscii};
 ghost use Rattle.image.specs.Decode.{bind, cellAt, nodeAt, split, build, only, nameEnd, endsAt, isSome, decode};
@@ -30,6 +30,16 @@ pub fn node_at(image: &[u8], n: usize, i: usize) -> Node
         size: (tag / 256) as usize,
         arg,
     }
+}
+
+// The bytes of a name in an image of n nodes, from the argument of its node.
+pub fn name_of(image: &[u8], n: usize, arg: u64) -> &[u8]
+    requires { ⌜ 4 + 12 * n + arg / 65536 + arg % 65536 ≤ length (now image) ⌝ }
+    ensures { λ r. ⌜ now r ≡ take (arg % 65536) (drop (4 + 12 * n + arg / 65536) (now (image .entry))) ⌝ }
+{
+    let start = 4 + 12 * n + (arg / 65536) as usize;
+    let end = start + (arg % 65536) as usize;
+    &image[start..end]
 }
 
 // Whether the last of the rules that the first `end` nodes make are just the nodes from `from` on.

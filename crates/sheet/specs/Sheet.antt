@@ -1,5 +1,5 @@
--- Worked examples of tokens, counts, durations and reading, held together as one table and proved by one statement over all of
--- its rows. Assumes nothing.
+-- Worked examples of tokens, counts, durations, reading and judging, held together as one table and proved by one statement over
+-- all of its rows. Assumes nothing.
 use mathlib.Core.Path.{_≡_, refl}
 use mathlib.Core.Bool.{true, false}
 use mathlib.Core.List.{List, [], _∷_, map, List·Memᴰ, List·Memᴰ·head, List·Memᴰ·tail}
@@ -9,7 +9,7 @@ use Rattle.ascii.specs.Text.{bytes, part, run, runEnd}
 use Rattle.ascii.specs.Letters.{lower, equalBy}
 use Rattle.classes.specs.Class.{classOf, ofClass}
 use Rattle.refusals.specs.declared.Refusal.{Refusal}
-use Rattle.refusals.specs.Refusals.{refusal, halfSign, openQuote, strayCharacter, noExpression, openBracket, trailingToken, unknownFunction, missingArgument, badCount, badDuration, emptyList}
+use Rattle.refusals.specs.Refusals.{refusal, halfSign, openQuote, strayCharacter, noExpression, openBracket, trailingToken, unknownFunction, missingArgument, badCount, badDuration, emptyList, badStoreTable, twinName, unknownStore, unconfirmed, archiveOnly}
 use Rattle.words.specs.declared.Token.{Token}
 use Rattle.words.specs.declared.Token.the-variants.{End, Open, Close, Comma, And, Or, Word, Fault}
 use Rattle.words.specs.declared.Scanned.{Scanned}
@@ -22,9 +22,17 @@ use Rattle.numbers.specs.Duration.{durationOf}
 use Rattle.image.specs.Rule.{named, olderThan, readable, Join, atLeast, all, any, Rule, leaf, node, nil, more, size}
 use Rattle.grammar.specs.Grammar.{after, firstPlace, dueIn, olderThanHead, readableHead, atLeastHead, functionOf, bareLeaf, headIn, leftRules, chain, orIn}
 use Rattle.grammar.specs.Reading.{Read, rule, refused, parseOf, readOf}
+use Rattle.image.specs.Bytes.{leAt}
+use Rattle.image.specs.Encode.{allAscii}
+use Rattle.stores.specs.Names.{has}
+use Rattle.stores.specs.Stores.{sum, allAtMost, wellMade, entriesIn, isReadable, namesOf, readyCount, twinOf}
+use Rattle.decide.specs.Evict.{evict}
+use Rattle.safety.specs.Check.{unknownIn, checkRule, judgeOf}
+use Rattle.safety.specs.declared.Verdict.{Verdict}
+use Rattle.safety.specs.declared.Verdict.the-variants.{Pass, Refused as NotPassed}
 
 -- a row: a text, and its tokens, its first fault, the number that it is as a count or as a duration, the rule that it reads as
--- with how many nodes that has, or the refusal of reading it, its number and its place
+-- with how many nodes that has, the refusal of reading it, its number and its place, or with a table of stores what it is judged
 pub data Row : Type 0 where
   tokens : String → List Token → Row
   scan : String → Scanned → Row
@@ -32,6 +40,7 @@ pub data Row : Type 0 where
   duration : String → Parsed → Row
   reads : String → Rule → ℕ → Row
   refuses : String → ℕ → ℕ → Row
+  judges : List ℕ → String → Verdict → Row
 
 pub data Answer : Type 0 where
   tokenList : List Token → Answer
@@ -39,6 +48,7 @@ pub data Answer : Type 0 where
   parsed : Parsed → Answer
   aRule : Rule → ℕ → Answer
   aRefusal : Refusal → Answer
+  aVerdict : Verdict → Answer
 
 abbrev pub readAnswer : Read → Answer
 readAnswer (rule r) = aRule r (size r)
@@ -52,6 +62,7 @@ answerOf (count t n) = parsed (countOf (bytes t))
 answerOf (duration t n) = parsed (durationOf (bytes t))
 answerOf (reads t r n) = readAnswer (readOf (bytes t))
 answerOf (refuses t n p) = readAnswer (readOf (bytes t))
+answerOf (judges s t v) = aVerdict (judgeOf (bytes t) s)
 
 -- what the row says
 unfoldable pub expected : Row → Answer
@@ -61,6 +72,7 @@ expected (count t n) = parsed n
 expected (duration t n) = parsed n
 expected (reads t r n) = aRule r n
 expected (refuses t n p) = aRefusal (refusal n p)
+expected (judges s t v) = aVerdict v
 
 -- a bare word and a quoted one, from its place up to where the text goes on
 abbrev bare : ℕ → ℕ → Token
@@ -78,6 +90,22 @@ two j q r = node j (more nil q) r
 
 abbrev three : Join → Rule → Rule → Rule → Rule
 three j p q r = node j (more (more nil p) q) r
+
+-- tables: nas (0) and vault (2); vault and cellar, both write-only; no stores; nas three times
+abbrev home : List ℕ
+home = 2 ∷ 0 ∷ 8 ∷ 0 ∷ 0 ∷ 2 ∷ 3 ∷ 5 ∷ bytes "nasvault"
+
+abbrev archive : List ℕ
+archive = 2 ∷ 0 ∷ 11 ∷ 0 ∷ 2 ∷ 2 ∷ 5 ∷ 6 ∷ bytes "vaultcellar"
+
+abbrev noStores : List ℕ
+noStores = 0 ∷ 0 ∷ 0 ∷ 0 ∷ []
+
+abbrev twins : List ℕ
+twins = 3 ∷ 0 ∷ 9 ∷ 0 ∷ 0 ∷ 2 ∷ 0 ∷ 3 ∷ 3 ∷ 3 ∷ bytes "nasnasnas"
+
+abbrev no : ℕ → ℕ → Verdict
+no n p = NotPassed (refusal n p)
 
 abbrev pub rows : List Row
 rows =
@@ -157,11 +185,26 @@ rows =
     refuses "older_than(30D)" badDuration 11 ∷
     refuses "(a,b)" openBracket 2 ∷
     refuses "()" noExpression 1 ∷
+    judges home "nas || vault" (no archiveOnly 0) ∷
+    judges home "at_least(0, nas)" (no unconfirmed 0) ∷
+    judges home "at_least(2, nas, vault)" Pass ∷
+    judges home "older_than(30d) && readable(1)" Pass ∷
+    judges home "at_least(2, older_than(30d), vault)" (no archiveOnly 0) ∷
+    judges home "nas && (mirror || desk)" (no unknownStore 1) ∷
+    judges home "older_than(1d) || desk" (no unknownStore 1) ∷
+    judges home "older_than(1d)" (no unconfirmed 0) ∷
+    judges home "nas &" (no halfSign 4) ∷
+    judges archive "vault && cellar" (no archiveOnly 0) ∷
+    judges archive "readable(1)" Pass ∷
+    judges noStores "desk || older_than(1d)" Pass ∷
+    judges twins "desk" (no twinName 1) ∷
+    judges [] "desk" (no badStoreTable 0) ∷
+    judges [] "any()" (no emptyList 0) ∷
     []
 
 -- by computation, over all rows at once
 rows-computed : map answerOf rows ≡ map expected rows
-unfolding answerOf expected run runEnd part lower equalBy classOf ofClass other doubled quotedTo quotedAt bareTo bareAt tokenOf startAt tokenAt nextOf tokensBy tokensFrom scanOf countOf durationOf ascii placeOf size after firstPlace dueIn olderThanHead readableHead atLeastHead functionOf bareLeaf headIn leftRules chain orIn parseOf readOf
+unfolding answerOf expected run runEnd part lower equalBy classOf ofClass other doubled quotedTo quotedAt bareTo bareAt tokenOf startAt tokenAt nextOf tokensBy tokensFrom scanOf countOf durationOf ascii placeOf size after firstPlace dueIn olderThanHead readableHead atLeastHead functionOf bareLeaf headIn leftRules chain orIn parseOf readOf leAt allAscii has sum allAtMost wellMade entriesIn isReadable namesOf readyCount twinOf evict unknownIn checkRule judgeOf
 rows-computed = refl
 
 -- each row holds

@@ -6,3 +6,6 @@ pub mod EntriesLaws
 pub mod StoresLaws
 pub mod WalkLaws
 pub mod MemberLaws
+pub mod EntryLaws
+pub mod ListBytes
+pub mod ListBytesLaws

@@ -93,6 +93,11 @@ unfoldable pub twinOf : List Entry → Twin
 unfolding twinFrom
 twinOf es = twinFrom [] 0 es
 
+-- 18 for a twin, else `rest`
+abbrev pub unlessTwin {ℓ} : {A : Type ℓ} → (ℕ → A) → Twin → A → A
+unlessTwin refuse No rest = rest
+unlessTwin refuse (At i) rest = refuse i
+
 -- a table or a list whose names lie within it
 pub record Laid (s : List ℕ) : Type 0 where
   pub arrays : 4 + 2 * countIn s ≤ length s

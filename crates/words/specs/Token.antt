@@ -125,7 +125,7 @@ unfoldable pub scanOf : List Token → Scanned
 scanOf [] = Clean
 scanOf (t ∷ ts) = unless t (scanOf ts)
 
--- what the numbers of a token at or after `at`, in a text of `len` bytes, keep to
+-- what the numbers of a token at or after `at`, in a text of `len` bytes, keep to; a fault is one of 4 to 6
 abbrev pub Lexed : ℕ → ℕ → Token → Type 0
 Lexed len at (End p) = p ≡ len
 Lexed len at (Open p n) = (at ≤ p) × (p < n) × (n ≤ len)
@@ -134,4 +134,4 @@ Lexed len at (Comma p n) = (at ≤ p) × (p < n) × (n ≤ len)
 Lexed len at (And p n) = (at ≤ p) × (p < n) × (n ≤ len)
 Lexed len at (Or p n) = (at ≤ p) × (p < n) × (n ≤ len)
 Lexed len at (Word p a b q n) = (at ≤ p) × (p ≤ a) × (a ≤ b) × (b ≤ n) × (p < n) × (n ≤ len)
-Lexed len at (Fault f) = (at ≤ f .place) × (f .place < len)
+Lexed len at (Fault f) = (at ≤ f .place) × (f .place < len) × (4 ≤ f .number) × (f .number ≤ 6)

@@ -52,7 +52,7 @@ module _ (s : List ℕ) (at : ℕ) {p : ℕ} (e : p ≡ runEnd (ofClass blank) s
 
 -- ---- what a token's numbers keep to
 -- either way of a test
-by-cond : (P : Token → Type 0) (v : Bool) {a b : Token} → (v ≡ true → P a) → (v ≡ false → P b) → P (cond v a b)
+pub by-cond : {A : Type 0} (P : A → Type 0) (v : Bool) {a b : A} → (v ≡ true → P a) → (v ≡ false → P b) → P (cond v a b)
 by-cond P true f g = f refl
 by-cond P false f g = g refl
 

@@ -9,7 +9,8 @@ use Rattle.stores.specs.Stores.{isTable, isList, entriesIn, twinOf}
 use Rattle.stores.specs.StoresLaws.{well-made-laid}
 use Rattle.stores.specs.declared.Twin.the-variants.{No}
 use Rattle.decide.specs.Decide.{saying}
-use Rattle.decide.specs.AnswerLaws.{refused-16, refused-17, refused-18, refused-19, image-inside, answered}
+use Rattle.decide.specs.InsideLaws.{image-inside}
+use Rattle.decide.specs.AnswerLaws.{refused-16, refused-17, refused-18, refused-19, answered}
 use Rattle.decide.proofs.decide.Statement.{statement}
 use Rattle.decide.proofs.decide.Tie as tie
 
@@ -75,7 +76,7 @@ returns-4 c =
 le2-requires : tie.Need-le2-requires
 le2-requires c κs =
     let s = c .before .before .before .before .before .before .before .before .before .before .before .before .args in
-    omega (arith, image-inside (s .image .now) (s .stores .now) (s .age) (s .list .now) (the-image (c .before .before .before .before .before .before .before)) refl .long)
+    omega (arith, image-inside (s .image .now) (the-image (c .before .before .before .before .before .before .before)) refl .long)
 
 ready-count-requires : tie.Need-ready-count-requires
 ready-count-requires c κs =
@@ -86,7 +87,7 @@ ready-count-requires c κs =
 evaluate-requires : tie.Need-evaluate-requires
 evaluate-requires c κs =
     let s = c .before .before .before .before .before .before .before .before .before .before .before .before .before .before .args in
-    (image-inside (s .image .now) (s .stores .now) (s .age) (s .list .now) (the-image (c .before .before .before .before .before .before .before .before .before)) (c .before .le2 .ensures .0), well-made-laid _ _ (the-list (c .before .before)))
+    (image-inside (s .image .now) (the-image (c .before .before .before .before .before .before .before .before .before)) (c .before .le2 .ensures .0), well-made-laid _ _ (the-list (c .before .before)))
 
 returns-5 : tie.Need-returns-5
 returns-5 c =

@@ -7,26 +7,8 @@ use Rattle.decide.specs.MeaningLaws.{no-leaf, says-named, says-older, sa
 use Rattle.decide.proofs.leaf_says.Statement.{statement}
 use Rattle.decide.proofs.leaf_says.Tie as tie
 
-mul-start : tie.Need-mul-start
-mul-start c = let s = c .before .before .before in omega (arith, s .pre .0 (c .match .keys1), s .good)
-
-add-start : tie.Need-add-start
-add-start c = let s = c .before .before .before in omega (arith, s .pre .0 (c .match .keys1), s .good)
-
-add-start-2 : tie.Need-add-start-2
-add-start-2 c = let s = c .before .before .before in omega (arith, s .pre .0 (c .match .keys1), s .good)
-
-add-end : tie.Need-add-end
-add-end c = let s = c .before .before .before in omega (arith, s .pre .0 (c .match .keys1), s .good)
-
-sub-is-among : tie.Need-sub-is-among
-sub-is-among c = search needs
-
-part-is-among-start : tie.Need-part-is-among-start
-part-is-among-start c = search needs
-
-part-is-among-end : tie.Need-part-is-among-end
-part-is-among-end c = omega (arith, c .before .before .before .pre .0 (c .match .keys1))
+name-of-requires : tie.Need-name-of-requires
+name-of-requires c κs = c .before .before .before .pre .0 (c .match .keys1)
 
 count-of-requires : tie.Need-count-of-requires
 count-of-requires c κs = search needs
@@ -38,7 +20,7 @@ returns : tie.Need-returns
 returns c = λ l e.
     let s = c .before .before .before .before .before .before in
     let n = c .before .count-of in
-    says-named _ _ _ (worldIn (s .args .list .now) (s .args .view)) l e (c .before .before .before .match .keys1) (rw (entries-all (s .args .list .now) (n .result) (s .pre .1) (n .ensures .0)) at (c .is-among .ensures))
+    says-named _ _ _ (worldIn (s .args .list .now) (s .args .view)) l e (c .before .before .before .match .keys1) (c .before .before .name-of .ensures) (rw (entries-all (s .args .list .now) (n .result) (s .pre .1) (n .ensures .0)) at (c .is-among .ensures))
 
 returns-2 : tie.Need-returns-2
 returns-2 c = λ l e. says-older _ _ _ _ l e (c .before .match .keys2)
@@ -53,13 +35,7 @@ pub leaf-says-spec : {M : Type 1} → statement M
 leaf-says-spec =
     tie.close
     (tie.spec
-    mul-start
-    add-start
-    add-start-2
-    add-end
-    sub-is-among
-    part-is-among-start
-    part-is-among-end
+    name-of-requires
     count-of-requires
     is-among-requires
     returns

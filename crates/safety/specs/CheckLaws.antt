@@ -1,0 +1,142 @@
+-- What checking answers, by what each test found, and that what reading writes can be checked. Assumes nothing.
+use Prim.Native.Nat.{ℕ, zero, suc, _≤_}
+use mathlib.Core.Path.{_≡_, refl, sym, ap, _∙_}
+use mathlib.Core.Bool.{Bool, true, false, _&&_, and-false}
+use mathlib.Core.List.{List, [], _∷_, _++_}
+use native.Mathlib.Omega.{arith}
+use borrow.Author.Tests.{le-leb, lt-leb, le-ltb}
+use lib.Dec.{leb}
+use lib.ListN.{length, take, drop, length-append}
+use lib.Seq.{take-append-seam}
+use Rattle.ascii.specs.Letters.{within}
+use Rattle.refusals.specs.Refusals.{refusal, badImage, badStoreTable, twinName, unknownStore, unconfirmed, archiveOnly}
+use Rattle.image.specs.Rule.{Rule, size}
+use Rattle.image.specs.Bytes.{leAt}
+use Rattle.image.specs.Encode.{encode}
+use Rattle.image.specs.Decode.{isSome, cellAt, decode}
+use Rattle.image.specs.FitLaws.{isSome-true, isSome-false}
+use Rattle.image.specs.Standing.{Stands}
+use Rattle.grammar.specs.Reading.{Read, rule, refused, readOf}
+use Rattle.grammar.specs.FitsLaws.{read-decodes}
+use Rattle.expressions.specs.Outcome.{Outcome, outcome, readingOf, readInto}
+use Rattle.expressions.specs.declared.Reading.{Reading}
+use Rattle.expressions.specs.declared.Reading.the-variants.{Read as Written}
+use Rattle.stores.specs.Stores.{Entry, isTable, countIn, entriesIn, namesOf, twinOf}
+use Rattle.stores.specs.StoresLaws.{well-made-laid}
+use Rattle.stores.specs.WalkLaws.{length-entries}
+use Rattle.stores.specs.declared.Twin.the-variants.{No as Lone, At as Twinned}
+use Rattle.decide.specs.Evict.{worldOf, evict}
+use Rattle.decide.specs.InsideLaws.{decode-whole}
+use Rattle.safety.specs.Check.{oldest, writeOnly, bare, archived, verdict, unknownIn, checkStores, checkRule, checkOf}
+use Rattle.safety.specs.declared.Unknown.{Unknown}
+use Rattle.safety.specs.declared.Unknown.the-variants.{No, At}
+use Rattle.safety.specs.declared.Verdict.{Verdict}
+use Rattle.safety.specs.declared.Verdict.the-variants.{Pass, Refused}
+
+-- ---- names by modes
+
+-- no mode is from 1 up to 0
+never-within : (m : ℕ) → within 1 0 m ≡ false
+never-within zero = refl
+never-within (suc m) = rw (lt-leb (suc m) 0 (omega arith), and-false)
+
+names-none : (es : List Entry) → namesOf 1 0 es ≡ []
+unfolding namesOf
+names-none [] = refl
+names-none (e ∷ es) = rw (never-within (e .mode)) (names-none es)
+
+-- where 21 is not due, 22 is tested without a look at whether there are write-only stores
+pub archived-by : (r : Rule) (es : List Entry) → bare r es ≡ false → archived r es ≡ evict r (worldOf es oldest (writeOnly es))
+archived-by r es e = go (writeOnly es)
+  where
+    go : (ns : List (List ℕ)) → (leb 1 (length ns) && evict r (worldOf es oldest ns)) ≡ evict r (worldOf es oldest ns)
+    go [] = sym e
+    go (n ∷ ns) = rw (le-leb 1 (length (n ∷ ns)) (omega arith))
+
+-- ---- checking a rule against the bytes of a table
+
+-- a table with at least one store and no name twice
+pub record WithStores (s : List ℕ) : Type 0 where
+  pub table : isTable s ≡ true
+  pub lone : twinOf (entriesIn s) ≡ Lone
+  pub stored : countIn s ≡ 0 → ⊥
+
+-- of a rule r and bytes s: 17, 18, no stores
+module _ (r : Rule) (s : List ℕ) where
+  pub refused-17 : isTable s ≡ false → Refused (refusal badStoreTable 0) ≡ checkRule r s
+  unfolding checkRule
+  refused-17 e = rw e
+
+  pub refused-18 : {i : ℕ} → isTable s ≡ true → twinOf (entriesIn s) ≡ Twinned i → Refused (refusal twinName i) ≡ checkRule r s
+  unfolding checkRule
+  refused-18 table e = rw (table, e)
+
+  by-stores : isTable s ≡ true → twinOf (entriesIn s) ≡ Lone → checkStores r (entriesIn s) ≡ checkRule r s
+  unfolding checkRule
+  by-stores table lone = rw (table, lone)
+
+  pub passed-none : isTable s ≡ true → twinOf (entriesIn s) ≡ Lone → countIn s ≡ 0 → Pass ≡ checkRule r s
+  passed-none table lone e = go (entriesIn s) (length-entries s (well-made-laid 2 s table)) ∙ by-stores table lone
+    where
+      go : (es : List Entry) → length es ≡ countIn s → Pass ≡ checkStores r es
+      go [] q = refl
+      go (x ∷ es) q = absurd (omega arith)
+
+  -- 20: there are stores, and u is what a look for unknown names found
+  module _ (h : WithStores s) {u : Unknown} (found : u ≡ unknownIn (entriesIn s) r 0) where
+    pub by-tests : verdict u (bare r (entriesIn s)) (archived r (entriesIn s)) ≡ checkRule r s
+    by-tests = rw found (go (entriesIn s) (length-entries s (well-made-laid 2 s (h .table)))) ∙ by-stores (h .table) (h .lone)
+      where
+        go : (es : List Entry) → length es ≡ countIn s → verdict (unknownIn es r 0) (bare r es) (archived r es) ≡ checkStores r es
+        go [] q = absurd (h .stored (sym q))
+        go (x ∷ es) q = refl
+
+    pub refused-20 : {i : ℕ} → u ≡ At i → Refused (refusal unknownStore i) ≡ checkRule r s
+    refused-20 e = rw e at by-tests
+
+    -- 21: there is none, and b is what the rule says with nothing confirmed
+    module _ (known : u ≡ No) {b : Bool} (says : b ≡ evict r (worldOf (entriesIn s) oldest (namesOf 1 0 (entriesIn s)))) where
+      says-bare : bare r (entriesIn s) ≡ b
+      says-bare = sym (rw names-none at says)
+
+      pub refused-21 : b ≡ true → Refused (refusal unconfirmed 0) ≡ checkRule r s
+      refused-21 e = rw (known, says-bare, e) at by-tests
+
+      -- 22 or a pass: b is keep, and a is what the rule says with the write-only stores confirmed
+      module _ (keeps : b ≡ false) {a : Bool} (also : a ≡ evict r (worldOf (entriesIn s) oldest (namesOf 2 2 (entriesIn s)))) where
+        by-archived : verdict No false a ≡ checkRule r s
+        by-archived = rw (known, archived-by r (entriesIn s) (says-bare ∙ keeps), says-bare, keeps, ← also) at by-tests
+
+        pub refused-22 : a ≡ true → Refused (refusal archiveOnly 0) ≡ checkRule r s
+        refused-22 e = rw e at by-archived
+
+        pub passed : a ≡ false → Pass ≡ checkRule r s
+        passed e = rw e at by-archived
+
+-- ---- checking an image i
+module _ (i : List ℕ) where
+  pub refused-16 : (s : List ℕ) → isSome (decode i) ≡ false → Refused (refusal badImage 0) ≡ checkOf i s
+  unfolding checkOf
+  refused-16 s e = rw (isSome-false (decode i) e)
+
+  -- n is what its first two bytes say
+  module _ {n : ℕ} (image : isSome (decode i) ≡ true) (p : n ≡ leAt i 0 2) where
+    -- v is the verdict on whatever rule has all n nodes
+    pub checks-image : {v : Verdict} (s : List ℕ) → ((r : Rule) → size r ≡ n → Stands r (cellAt i n) 0 → v ≡ checkRule r s) → v ≡ checkOf i s
+    unfolding checkOf
+    checks-image s h =
+        let (r, e) = isSome-true (decode i) image in
+        let w = decode-whole i p e in
+        rw e (h r (w .sized) (w .stands))
+
+-- ---- what reading writes into a buffer that has room is an image, and lies within the buffer
+pub written-image : (text buffer : List ℕ) {a : Reading} {n : ℕ} {image : List ℕ} → 26_628 ≤ length buffer → outcome a image ≡ readInto text buffer → a ≡ Written n → (n ≤ length image) × (isSome (decode (take n image)) ≡ true)
+unfolding readInto
+written-image text buffer {a} {n} {image} room e is = go (readOf text) refl (rw (le-ltb _ _ room) at e)
+  where
+    go : (x : Read) → readOf text ≡ x → outcome a image ≡ readingOf x buffer → (n ≤ length image) × (isSome (decode (take n image)) ≡ true)
+    go (rule r) q o =
+        let long : n ≡ length (encode r) = cc (ap (λ (x : Outcome). x .answer) o) in
+        let left : image ≡ encode r ++ drop (length (encode r)) buffer = ap (λ (x : Outcome). x .image) o in
+        (rw left (simp length-append (omega arith)), rw (long, left, take-append-seam, read-decodes text r q))
+    go (refused f) q o = let z : _≡_ {A = ℕ} 0 1 = cc (ap (λ (x : Outcome). x .answer) o) in absurd (omega arith)

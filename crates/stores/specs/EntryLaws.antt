@@ -1,0 +1,149 @@
+-- What is known of each entry of a well-made table or list, the names of entries by mode, and that no two entries have one name where there is no
+-- twin. Assumes nothing.
+use mathlib.Core.Path.{_≡_, refl, sym, ap, _∙_}
+use mathlib.Core.Bool.{Bool, true, false, cond, _&&_, _||_, true≢false, and-eq-true-iff}
+use mathlib.Core.Logic.{_⊎_, inl, inr}
+use mathlib.Core.List.{List, [], _∷_, List·Memᴰ, List·Memᴰ·head, List·Memᴰ·tail, List·Memᴰ·not-nil}
+use Prim.Native.Nat.{ℕ, suc, _+_, _*_, _≤_}
+use native.Mathlib.Omega.{arith}
+use borrow.Author.Tests.{leb-true, le-leb}
+use lib.Dec.{leb, eqb}
+use lib.ListN.{length, drop, length-take}
+use Rattle.ascii.specs.Letters.{within}
+use Rattle.image.specs.Bytes.{AllBytes}
+use Rattle.image.specs.BytesLaws.{bytes-at}
+use Rattle.image.specs.Encode.{allAscii}
+use Rattle.image.specs.AsciiLaws.{take-ascii, drop-ascii}
+use Rattle.stores.specs.Names.{sameName, has}
+use Rattle.stores.specs.MemberLaws.{mem-has}
+use Rattle.stores.specs.Stores.{Entry, entriesFrom, entriesIn, countIn, totalIn, modesIn, lengthsIn, nameBytesIn, sum, allAtMost, wellMade, isReadable, namesOf, readyCount, twinFrom, twinOf}
+use Rattle.stores.specs.declared.Twin.{Twin}
+use Rattle.stores.specs.declared.Twin.the-variants.{No, At}
+
+-- ---- the names of the entries whose mode is from lo up to hi: an entry stands behind each, and each such entry has its name among them
+pub name-entry : (lo hi : ℕ) (w : List ℕ) (es : List Entry) → List·Memᴰ w (namesOf lo hi es) → (e : Entry) × List·Memᴰ e es × (lo ≤ e .mode) × (e .mode ≤ hi) × (e .name ≡ w)
+unfolding namesOf
+name-entry lo hi w [] m = absurd (List·Memᴰ·not-nil m)
+name-entry lo hi w (x ∷ es) m = go (within lo hi (x .mode)) refl (name-entry lo hi w es) m
+  where
+    go : (b : Bool) → within lo hi (x .mode) ≡ b → (List·Memᴰ w (namesOf lo hi es) → (e : Entry) × List·Memᴰ e es × (lo ≤ e .mode) × (e .mode ≤ hi) × (e .name ≡ w)) →
+        List·Memᴰ w (cond b (x .name ∷ namesOf lo hi es) (namesOf lo hi es)) →
+        (e : Entry) × List·Memᴰ e (x ∷ es) × (lo ≤ e .mode) × (e .mode ≤ hi) × (e .name ≡ w)
+    go true t below (List·Memᴰ·head p) =
+        let i = and-eq-true-iff (leb lo (x .mode)) (leb (x .mode) hi) .0 t in
+        (x, List·Memᴰ·head refl, leb-true lo (x .mode) (i .0), leb-true (x .mode) hi (i .1), sym p)
+    go true t below (List·Memᴰ·tail k) = let (e, i, low, high, n) = below k in (e, List·Memᴰ·tail i, low, high, n)
+    go false t below k = let (e, i, low, high, n) = below k in (e, List·Memᴰ·tail i, low, high, n)
+
+pub entry-named : (lo hi : ℕ) (e : Entry) (es : List Entry) → List·Memᴰ e es → lo ≤ e .mode → e .mode ≤ hi → List·Memᴰ (e .name) (namesOf lo hi es)
+unfolding namesOf
+entry-named lo hi e es (List·Memᴰ·head {x} {xs} p) low high =
+    rw (← ap (λ (t : Entry). t .mode) p, le-leb lo (e .mode) low, le-leb (e .mode) hi high) (List·Memᴰ·head (ap (λ (t : Entry). t .name) p))
+entry-named lo hi e es (List·Memᴰ·tail {x} {xs} m) low high = go (within lo hi (x .mode)) (entry-named lo hi e xs m low high)
+  where
+    go : (b : Bool) → List·Memᴰ (e .name) (namesOf lo hi xs) → List·Memᴰ (e .name) (cond b (x .name ∷ namesOf lo hi xs) (namesOf lo hi xs))
+    go true k = List·Memᴰ·tail k
+    go false k = k
+
+-- and there are no more of them than entries
+pub names-few : (lo hi : ℕ) (es : List Entry) → length (namesOf lo hi es) ≤ length es
+unfolding namesOf
+names-few lo hi [] = omega arith
+names-few lo hi (e ∷ es) = go (within lo hi (e .mode)) (names-few lo hi es)
+  where
+    go : (b : Bool) → length (namesOf lo hi es) ≤ length es → length (cond b (e .name ∷ namesOf lo hi es) (namesOf lo hi es)) ≤ suc (length es)
+    go true h = omega arith
+    go false h = omega arith
+
+-- ---- no two entries of one name where there is no twin
+no-twin : (b : Bool) (i : ℕ) (r : Twin) → cond b (At i) r ≡ No → (b ≡ false) × (r ≡ No)
+no-twin true i r e = absurd (let z : _≡_ {A = ℕ} 0 1 = cc in omega arith)
+no-twin false i r e = (refl, e)
+
+neither : (a b : Bool) → (a || b) ≡ false → b ≡ false
+neither true b e = absurd (true≢false e)
+neither false b e = e
+
+-- each entry's name is not one that was seen
+unseen : (seen : List (List ℕ)) (i : ℕ) (es : List Entry) → twinFrom seen i es ≡ No → (e : Entry) → List·Memᴰ e es → has (e .name) seen ≡ false
+unfolding twinFrom has
+unseen seen i (x ∷ es) t e (List·Memᴰ·head p) = rw p (no-twin (has (x .name) seen) i _ t .0)
+unseen seen i (x ∷ es) t e (List·Memᴰ·tail m) =
+    neither (sameName (e .name) (x .name)) (has (e .name) seen) (unseen (x .name ∷ seen) (suc i) es (no-twin (has (x .name) seen) i _ t .1) e m)
+
+one-from : (seen : List (List ℕ)) (i : ℕ) (es : List Entry) → twinFrom seen i es ≡ No → (e f : Entry) → List·Memᴰ e es → List·Memᴰ f es → e .name ≡ f .name → e ≡ f
+unfolding twinFrom
+one-from seen i [] t e f m k n = absurd (List·Memᴰ·not-nil m)
+one-from seen i (x ∷ es) t e f m k n = go (λ l j. one-from (x .name ∷ seen) (suc i) es rest e f l j n) m k
+  where
+    rest : twinFrom (x .name ∷ seen) (suc i) es ≡ No
+    rest = no-twin (has (x .name) seen) i _ t .1
+
+    apart : (y : Entry) → List·Memᴰ y es → y .name ≡ x .name → ⊥
+    apart y l e = true≢false (sym (mem-has (List·Memᴰ·head {xs = seen} e)) ∙ unseen (x .name ∷ seen) (suc i) es rest y l)
+
+    go : (List·Memᴰ e es → List·Memᴰ f es → e ≡ f) → List·Memᴰ e (x ∷ es) → List·Memᴰ f (x ∷ es) → e ≡ f
+    go below (List·Memᴰ·head p) (List·Memᴰ·head q) = p ∙ sym q
+    go below (List·Memᴰ·head p) (List·Memᴰ·tail l) = absurd (apart f l (rw p at (sym n)))
+    go below (List·Memᴰ·tail l) (List·Memᴰ·head q) = absurd (apart e l (rw q at n))
+    go below (List·Memᴰ·tail l) (List·Memᴰ·tail j) = below l j
+
+pub one-of-name : (es : List Entry) → twinOf es ≡ No → (e f : Entry) → List·Memᴰ e es → List·Memᴰ f es → e .name ≡ f .name → e ≡ f
+unfolding twinOf
+one-of-name es t = one-from [] 0 es t
+
+-- ---- a readable store is confirmed, or none is, and then none is counted
+abbrev pub OneReady : List Entry → List (List ℕ) → Type 0
+OneReady es ns = (e : Entry) × List·Memᴰ e es × (isReadable (e .mode) ≡ true) × (has (e .name) ns ≡ true)
+
+abbrev pub NoneReady : List Entry → List (List ℕ) → Type 0
+NoneReady es ns = (readyCount es ns ≡ 0) × ((e : Entry) → List·Memᴰ e es → isReadable (e .mode) ≡ true → has (e .name) ns ≡ false)
+
+pub ready-or-none : (es : List Entry) (ns : List (List ℕ)) → OneReady es ns ⊎ NoneReady es ns
+unfolding readyCount
+ready-or-none [] ns = inr (refl, λ e m. absurd (List·Memᴰ·not-nil m))
+ready-or-none (x ∷ es) ns = go (isReadable (x .mode)) (has (x .name) ns) refl refl (ready-or-none es ns)
+  where
+    each : (isReadable (x .mode) ≡ true → has (x .name) ns ≡ false) → NoneReady es ns → (e : Entry) → List·Memᴰ e (x ∷ es) → isReadable (e .mode) ≡ true → has (e .name) ns ≡ false
+    each f n e (List·Memᴰ·head p) r = rw p (f (rw p at r))
+    each f n e (List·Memᴰ·tail m) r = n .1 e m r
+
+    go : (r h : Bool) → isReadable (x .mode) ≡ r → has (x .name) ns ≡ h → OneReady es ns ⊎ NoneReady es ns →
+        OneReady (x ∷ es) ns ⊎ ((cond (r && h) (suc (readyCount es ns)) (readyCount es ns) ≡ 0) × ((e : Entry) → List·Memᴰ e (x ∷ es) → isReadable (e .mode) ≡ true → has (e .name) ns ≡ false))
+    go true true p q below = inl (x, List·Memᴰ·head refl, p, q)
+    go true false p q (inl (e, m, a, b)) = inl (e, List·Memᴰ·tail m, a, b)
+    go true false p q (inr n) = inr (n .0, each (λ y. q) n)
+    go false h p q (inl (e, m, a, b)) = inl (e, List·Memᴰ·tail m, a, b)
+    go false h p q (inr n) = inr (n .0, each (λ y. absurd (true≢false (sym y ∙ p))) n)
+
+-- ---- each entry of a well-made table or list: its mode is at most the largest, its name has at most 255 bytes, each below 128
+made-parts : (most : ℕ) (s : List ℕ) → wellMade most s ≡ true → (allAtMost most (modesIn s) ≡ true) × (allAscii (nameBytesIn s) ≡ true)
+unfolding wellMade
+made-parts most s h =
+    let front = leb 4 (length s) && leb (countIn s) 64 && eqb (length s) (4 + 2 * countIn s + totalIn s) && eqb (sum (lengthsIn s)) (totalIn s) in
+    let (p, names) = and-eq-true-iff (front && allAtMost most (modesIn s)) (allAscii (nameBytesIn s)) .0 h in
+    (and-eq-true-iff front (allAtMost most (modesIn s)) .0 p .1, names)
+
+mode-from : (most : ℕ) (ms ls bs : List ℕ) → allAtMost most ms ≡ true → (e : Entry) → List·Memᴰ e (entriesFrom ms ls bs) → e .mode ≤ most
+unfolding entriesFrom allAtMost
+mode-from most [] ls bs h e m = absurd (List·Memᴰ·not-nil m)
+mode-from most (m ∷ ms) [] bs h e k = absurd (List·Memᴰ·not-nil k)
+mode-from most (m ∷ ms) (l ∷ ls) bs h e (List·Memᴰ·head p) = rw p (leb-true m most (and-eq-true-iff (leb m most) (allAtMost most ms) .0 h .0))
+mode-from most (m ∷ ms) (l ∷ ls) bs h e (List·Memᴰ·tail k) =
+    mode-from most ms ls (drop l bs) (and-eq-true-iff (leb m most) (allAtMost most ms) .0 h .1) e k
+
+pub entry-mode : (most : ℕ) (s : List ℕ) → wellMade most s ≡ true → (e : Entry) → List·Memᴰ e (entriesIn s) → e .mode ≤ most
+unfolding entriesIn
+entry-mode most s h = mode-from most (modesIn s) (lengthsIn s) (nameBytesIn s) (made-parts most s h .0)
+
+name-from : (ms ls bs : List ℕ) → AllBytes ls → allAscii bs ≡ true → (e : Entry) → List·Memᴰ e (entriesFrom ms ls bs) → (length (e .name) ≤ 255) × (allAscii (e .name) ≡ true)
+unfolding entriesFrom
+name-from [] ls bs b a e m = absurd (List·Memᴰ·not-nil m)
+name-from (m ∷ ms) [] bs b a e k = absurd (List·Memᴰ·not-nil k)
+name-from (m ∷ ms) (l ∷ ls) bs b a e (List·Memᴰ·head p) = rw p (omega (arith, length-take l bs, b 0), take-ascii l bs a)
+name-from (m ∷ ms) (l ∷ ls) bs b a e (List·Memᴰ·tail k) = name-from ms ls (drop l bs) (λ i. b (suc i)) (drop-ascii l bs a) e k
+
+pub entry-name : (most : ℕ) (s : List ℕ) → AllBytes s → wellMade most s ≡ true → (e : Entry) → List·Memᴰ e (entriesIn s) → (length (e .name) ≤ 255) × (allAscii (e .name) ≡ true)
+unfolding entriesIn
+entry-name most s b h =
+    name-from (modesIn s) (lengthsIn s) (nameBytesIn s) (bytes-at s (4 + countIn s) (countIn s) b) (made-parts most s h .1)
