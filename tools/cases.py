@@ -6,9 +6,12 @@ usage: python3 tools/cases.py > crates/replay/stdin
 A case is a line. `read TEXT BUFFER ANSWER`: the text in hex (`-` where it is empty), the length of
 the lent buffer, and either `no NUMBER PLACE` or `ok IMAGE`, the bytes written in hex.
 `decide IMAGE STORES AGE LIST ANSWER`: the image, the table of stores and the confirmed list in hex
-(`-` where empty), the age in decimal, and `evict`, `keep` or `no NUMBER PLACE`. The answers come
-from the small reader and the small decider below, which follow document 01 sentence by sentence.
-Where document 01 or the list of traps states an answer itself, they are held to it first.
+(`-` where empty), the age in decimal, and `evict`, `keep` or `no NUMBER PLACE`.
+`check IMAGE STORES ANSWER` and `judge TEXT STORES ANSWER`: the image or the text and the table of
+stores in hex, and `pass` or `no NUMBER PLACE`. The answers come from the small reader, decider and
+checker below, which follow document 01 sentence by sentence. Where document 01 or the list of traps
+states an answer itself, they are held to it first. Where the table is small, a pass, a 21 and a 22
+are held to what the decisions for every confirmed list and the ages that matter show, by demand 3.
 The list is the same bytes on every run.
 """
 import sys
@@ -16,6 +19,7 @@ import sys
 SHORT, LONG, FOREIGN, HALF, QUOTE, STRAY, NONE, OPEN = range(1, 9)
 TRAILING, UNKNOWN, MISSING, COUNT, DURATION, EMPTY, DEEP = range(9, 16)
 BAD_IMAGE, BAD_STORES, TWIN, BAD_LIST = range(16, 20)
+UNKNOWN_STORE, UNCONFIRMED, ARCHIVE_ONLY = range(20, 23)
 
 NEED = 26628
 LENGTH = 2048
@@ -232,21 +236,26 @@ def image(rule):
         + [stored])
 
 
+def rule_in(text):
+    """The rule that a text reads as; refuses with 2 to 15."""
+    if len(text) > LENGTH:
+        raise Refused(LONG, 0)
+    for place, byte in enumerate(text):
+        if byte >= 128:
+            raise Refused(FOREIGN, place)
+    parser = Parser(tokens(text), len(text))
+    rule = parser.parse_or()
+    if parser.sort() != 'end':
+        raise Refused(TRAILING, parser.place())
+    return rule
+
+
 def read(text, room):
     """What reading answers: ('ok', image) or ('no', number, place)."""
     try:
         if room < NEED:
             raise Refused(SHORT, 0)
-        if len(text) > LENGTH:
-            raise Refused(LONG, 0)
-        for place, byte in enumerate(text):
-            if byte >= 128:
-                raise Refused(FOREIGN, place)
-        parser = Parser(tokens(text), len(text))
-        rule = parser.parse_or()
-        if parser.sort() != 'end':
-            raise Refused(TRAILING, parser.place())
-        return ('ok', image(rule))
+        return ('ok', image(rule_in(text)))
     except Refused as refused:
         return ('no', refused.number, refused.place)
 
@@ -338,17 +347,69 @@ def says(rule, age, ready, confirmed):
     return all(below) if kind == ALL else any(below)
 
 
+def known_stores(stores):
+    """The entries of a table of stores; refuses with 17, then with 18 at the first store whose name an earlier one has."""
+    known = entries_of(stores, (0, 1, 2), Refused(BAD_STORES, 0))
+    for place, (_, name) in enumerate(known):
+        if name in [earlier for _, earlier in known[:place]]:
+            raise Refused(TWIN, place)
+    return known
+
+
+def evicts(rule, known, age, confirmed):
+    """Whether a rule says evict for those stores, that age and that set of confirmed names."""
+    ready = sum(mode in (0, 1) and name in confirmed for mode, name in known)
+    return says(rule, age, ready, confirmed)
+
+
 def decide(data, stores, age, confirmed_list):
     """What deciding answers: 'evict', 'keep' or 'no NUMBER PLACE'."""
     try:
         rule = rule_of(data)
-        known = entries_of(stores, (0, 1, 2), Refused(BAD_STORES, 0))
-        for place, (_, name) in enumerate(known):
-            if name in [earlier for _, earlier in known[:place]]:
-                raise Refused(TWIN, place)
+        known = known_stores(stores)
         confirmed = {name for _, name in entries_of(confirmed_list, (0,), Refused(BAD_LIST, 0))}
-        ready = sum(mode in (0, 1) and name in confirmed for mode, name in known)
-        return 'evict' if says(rule, age, ready, confirmed) else 'keep'
+        return 'evict' if evicts(rule, known, age, confirmed) else 'keep'
+    except Refused as refused:
+        return 'no %d %d' % (refused.number, refused.place)
+
+
+# Checking and judging, as document 01 lays them down
+
+
+def in_order(rule):
+    """The nodes of a rule by their index: children before their parent, in text order."""
+    return [node for child in rule[2] for node in in_order(child)] + [rule]
+
+
+def verdict(rule, stores):
+    """'pass', where none of 17, 18, 20, 21, 22 is due for a rule and a table; else the first of them."""
+    known = known_stores(stores)
+    if not known:
+        return 'pass'
+    names = [name for _, name in known]
+    for index, (kind, argument, _) in enumerate(in_order(rule)):
+        if kind == NAMED and argument not in names:
+            raise Refused(UNKNOWN_STORE, index)
+    if evicts(rule, known, MOST, set()):
+        raise Refused(UNCONFIRMED, 0)
+    archive = {name for mode, name in known if mode == 2}
+    if archive and evicts(rule, known, MOST, archive):
+        raise Refused(ARCHIVE_ONLY, 0)
+    return 'pass'
+
+
+def check(data, stores):
+    """What checking answers: 'pass' or 'no NUMBER PLACE'."""
+    try:
+        return verdict(rule_of(data), stores)
+    except Refused as refused:
+        return 'no %d %d' % (refused.number, refused.place)
+
+
+def judge(text, stores):
+    """What judging answers: 'pass' or 'no NUMBER PLACE'."""
+    try:
+        return verdict(rule_in(text), stores)
     except Refused as refused:
         return 'no %d %d' % (refused.number, refused.place)
 
@@ -1598,6 +1659,480 @@ def drawn_decisions():
         decision(parts[0], parts[1], draw.of(AGES), parts[2])
 
 
+# The cases of check and judge
+
+TRIED = 5
+verdicts, held = {}, {}
+
+
+def shown(rule, stores):
+    """What decisions show of a rule that names only stores of a small table, by demand 3: whether it evicts at some age on some
+    list without a readable store, over every set of stores and the ages about each duration; and where it does, 21 or 22."""
+    data, known = image(rule), known_stores(stores)
+    spans = [argument for kind, argument, _ in in_order(rule) if kind == OLDER]
+    ages = {0, MOST} | {age for span in spans for age in (span - 1, span, span + 1) if 0 <= age <= MOST}
+    harms = False
+    for mask in range(2 ** len(known)):
+        chosen = [entry for index, entry in enumerate(known) if mask >> index & 1]
+        names = [name for _, name in chosen]
+        if any(mode != 2 for mode, _ in chosen):
+            continue
+        for given in (confirming(*names), confirming(b'a store of no table', *names, *names)):
+            harms = harms or any(decide(data, stores, age, given) == 'evict' for age in ages)
+    if not harms:
+        return 'pass'
+    if decide(data, stores, MOST, NOTHING) == 'evict':
+        return 'no 21 0'
+    archive = confirming(*[name for mode, name in known if mode == 2])
+    return 'no 22 0' if decide(data, stores, MOST, archive) == 'evict' else 'evicts, but on neither list'
+
+
+def hold(rule, stores, answer):
+    """Holds the verdict on a rule to what decisions show, where the table and the rule are small."""
+    if answer not in ('pass', 'no 21 0', 'no 22 0') or not 1 <= number(stores, 0, 2) <= TRIED or len(in_order(rule)) > 40:
+        return
+    key = (image(rule), stores)
+    if key not in held:
+        held[key] = shown(rule, stores)
+    if held[key] != answer:
+        sys.exit('%.200r %.60r: the verdict is %s, and decisions show %s' % (rule, stores, answer, held[key]))
+
+
+def add(call, given, stores, answer, stated):
+    """Adds a case of check or judge where it is not there yet; its answer must be the stated one, where one is."""
+    if stated not in (None, answer):
+        sys.exit('%s %.200r %.60r: the answer is %s, and stated is %s' % (call, given, stores, answer, stated))
+    if (call, given, stores) not in seen:
+        seen.add((call, given, stores))
+        out.append('%s %s %s %s' % (call, given.hex() or '-', stores.hex() or '-', answer))
+        sort = (call, ' '.join(answer.split()[:2]))
+        verdicts[sort] = verdicts.get(sort, 0) + 1
+    return answer
+
+
+def checked(data, stores, stated=None):
+    answer = check(data, stores)
+    if answer != 'no 16 0':
+        hold(rule_of(data), stores, answer)
+    return add('check', data, stores, answer, stated)
+
+
+def judged(text, stores, stated=None):
+    answer, reading = judge(text, stores), read(text, NEED)
+    if reading[0] == 'ok' and check(reading[1], stores) != answer:
+        sys.exit('%r %r: reading and then checking is not judging' % (text, stores))
+    if reading[0] == 'ok':
+        hold(rule_in(text), stores, answer)
+    return add('judge', text, stores, answer, stated)
+
+
+def both(text, stores, stated=None):
+    """A text that reads as a rule, judged, and its image checked."""
+    checked(of(text), stores, stated)
+    return judged(text, stores, stated)
+
+
+PASS, BARE, ARCHIVE = 'pass', 'no 21 0', 'no 22 0'
+LONE = table((2, b'vault'))
+TWINS = table((0, b'nas'), (2, b'vault'), (1, b'nas'))
+BROKEN = table((0, b'nas'), (3, b'vault'))
+
+
+def stores_of(**modes):
+    """A table from modes by their stores' names."""
+    return table(*[(mode, name.encode()) for name, mode in modes.items()])
+
+
+def verdict_sheet():
+    note('The proved sheet, and the rules that document 01 and the demands name')
+    both(b'nas || vault', HOME, ARCHIVE)
+    both(b'at_least(0, nas)', HOME, BARE)
+    both(b'at_least(2, nas, vault)', HOME, PASS)
+    both(b'at_least(2, older_than(30d), vault)', HOME, ARCHIVE)
+    both(b'older_than(30d) && readable(1)', HOME, PASS)
+    both(b'nas && readable(1)', HOME, PASS)
+    both(b"'READABLE'", HOME, PASS)
+    both(b'older_than("1h 30m")', HOME, BARE)
+    for vault in range(3):
+        for cellar in range(3):
+            answer = ARCHIVE if vault == cellar == 2 else PASS
+            both(b'vault && cellar', stores_of(vault=vault, cellar=cellar), answer)
+            both(b'vault && cellar', stores_of(nas=0, cellar=cellar, mirror=1, vault=vault), answer)
+    both(b'vault && cellar', WIDE, ARCHIVE)
+    for text, place in ((b'a && b || c', 3), (b'a && (b && c)', 2), (b'(a && b) && c', 2)):
+        both(text, HOME, 'no 20 0')
+        both(text, stores_of(a=0, b=2), 'no 20 %d' % place)
+        both(text, stores_of(a=0, b=2, c=1), PASS)
+    for text, answer in ((b'any(a,)', 'no 7 6'), (b'any()', 'no 14 0'), (b'', 'no 7 0'), (b'older_than(1h 30m)', 'no 8 14'),
+                         (b'readable(x', 'no 12 9'), (b'older_than(x', 'no 8 12'), (b') a &', 'no 4 4')):
+        judged(text, HOME, answer)
+
+
+def archive_cases():
+    note('Write-only stores: each alone, all of them, and beside others')
+    for name, answer in ((b'nas', PASS), (b'mirror', PASS), (b'desk', PASS), (b'vault', ARCHIVE), (b'cellar', ARCHIVE)):
+        both(name, WIDE, answer)
+        both(name + b' || readable(1)', WIDE, answer)
+        both(name + b' && older_than(30d)', WIDE, answer)
+        both(name + b' && readable(1)', WIDE, PASS)
+        both(name + b' || older_than(30d)', WIDE, BARE)
+        both(b'at_least(1, %s, nas)' % name, WIDE, answer)
+    for text, answer in ((b'nas && vault', PASS), (b'vault && cellar && nas', PASS), (b'vault && (cellar || nas)', ARCHIVE),
+                         (b'(vault || mirror) && (cellar || nas)', ARCHIVE), (b'(vault || mirror) && (desk || nas)', PASS),
+                         (b'vault && nas || cellar && desk', PASS), (b'vault && nas || cellar && vault', ARCHIVE),
+                         (b'nas || mirror || desk', PASS), (b'nas || mirror || desk || vault', ARCHIVE),
+                         (b'all(vault, cellar, older_than(1d), readable(0))', ARCHIVE), (b'all(vault, cellar, readable)', PASS),
+                         (b'at_least(3, vault, vault, vault)', ARCHIVE), (b'at_least(4, vault, vault, cellar, nas)', PASS),
+                         (b'at_least(3, vault, vault, cellar, nas)', ARCHIVE)):
+        both(text, WIDE, answer)
+        both(text, stores_of(cellar=2, vault=2, desk=1, nas=1, mirror=0), answer)
+    for text in (b'vault', b'readable(0) && vault', b'at_least(1, vault, older_than(999999999d) && readable(1))'):
+        both(text, LONE, ARCHIVE)
+        both(text, stores_of(vault=0), PASS)
+        both(text, stores_of(vault=1), PASS)
+    note('Counts of at_least: nothing confirmed reaches up to two, the write-only stores up to four')
+    for k in (0, 1, 2, 3, 4, 5, 6, 2 ** 32, MOST):
+        both(b'at_least(%d, vault, cellar, nas)' % k, WIDE, BARE if k == 0 else ARCHIVE if k < 3 else PASS)
+        both(b'at_least(%d, nas, older_than(5d), vault, readable(0), cellar)' % k, WIDE,
+             BARE if k < 3 else ARCHIVE if k < 5 else PASS)
+        both(b'at_least(%d, readable(1), nas, mirror, readable(2), desk)' % k, WIDE, BARE if k == 0 else PASS)
+    note('Counts of readable: no write-only store is a readable one')
+    for k in (0, 1, 2, 3, 64, MOST):
+        for stores in (HOME, LONE, WIDE, stores_of(vault=2, cellar=2)):
+            both(b'readable(%d)' % k, stores, PASS if k else BARE)
+            both(b'readable(%d) && vault' % k, stores, PASS if k else ARCHIVE)
+        both(b'readable(%d)' % k, stores_of(vault=0, cellar=1), PASS if k else BARE)
+        both(b'readable(%d) && vault' % k, stores_of(vault=0, cellar=1), PASS)
+    both(b'readable(1) || vault', HOME, ARCHIVE)
+    both(b'readable(1) && vault || readable(0) && nas', HOME, PASS)
+    both(b'readable(1) && nas || readable(0) && vault', HOME, ARCHIVE)
+    note('Durations: the largest age is at least as large as each')
+    for span in (0, 1, DAY, 2 ** 32, 2 ** 63, MOST - 1, MOST):
+        leaf = (OLDER, 1, span)
+        checked(packed([leaf]), HOME, BARE)
+        checked(packed([leaf]), stores_of(nas=0), BARE)
+        checked(packed([leaf, name_at(0, 5), (ALL, 3, 0)], b'vault'), HOME, ARCHIVE)
+        checked(packed([leaf, name_at(0, 3), (ALL, 3, 0)], b'nas'), HOME, PASS)
+        checked(packed([leaf, name_at(0, 3), (ANY, 3, 0)], b'nas'), HOME, BARE)
+        checked(packed([leaf, (READABLE, 1, 1), (ALL, 3, 0)]), HOME, PASS)
+    for text in (b'0s', b'1ms', b'999999999d', b'"1h 30m"'):
+        judged(b'older_than(%s)' % text, HOME, BARE)
+        judged(b'older_than(%s) and vault' % text, HOME, ARCHIVE)
+        judged(b'older_than(%s) and nas' % text, HOME, PASS)
+
+
+def mode_cases():
+    note('All modes of one, two and three stores; what each rule asks is said of the set of write-only stores')
+    one = ((b'a', lambda w: b'a' in w), (b'a && readable(1)', lambda w: False), (b'a || readable(2)', lambda w: b'a' in w),
+           (b'at_least(2, older_than(1d), a)', lambda w: b'a' in w), (b'all(a, a)', lambda w: b'a' in w))
+    two = ((b'a || b', lambda w: b'a' in w or b'b' in w), (b'a && b', lambda w: b'a' in w and b'b' in w),
+           (b'at_least(2, b, a, readable(1))', lambda w: b'a' in w and b'b' in w),
+           (b'b && (a || readable(1))', lambda w: b'a' in w and b'b' in w))
+    three = ((b'any(a, b, c)', lambda w: len(w) > 0), (b'a && b && c', lambda w: len(w) == 3),
+             (b'at_least(2, a, b, c)', lambda w: len(w) > 1),
+             (b'older_than(30d) && (c || a && b)', lambda w: b'c' in w or b'a' in w and b'b' in w),
+             (b'at_least(3, a, older_than(1ms), all(b, c), any(b, c))', lambda w: len(w) > 1))
+    for many, rules in ((1, one), (2, one + two), (3, two + three)):
+        names = [b'a', b'b', b'c'][:many]
+        for code in range(3 ** many):
+            entries = [(code // 3 ** index % 3, name) for index, name in enumerate(names)]
+            stores, archive = table(*entries), {name for mode, name in entries if mode == 2}
+            for text, harms in rules:
+                both(text, stores, ARCHIVE if harms(archive) else PASS)
+            both(b'readable(0) || ' + names[-1], stores, BARE)
+            both(names[0] + b' || d', stores, 'no 20 1')
+
+
+REFUSED = (
+    (b'nas' + b' ' * 2046, 'no 2 0'), (b"'\x80'", 'no 3 1'), (b'nas &', 'no 4 4'), (b'gone &', 'no 4 5'),
+    (b'nas || "vault', 'no 5 7'), (b'nas # vault', 'no 6 4'), (b'any(nas,)', 'no 7 8'), (b' \n', 'no 7 2'),
+    (b'(gone', 'no 8 5'), (b'readable(0) gone', 'no 9 12'), (b'gone(vault)', 'no 10 0'), (b'at_least(2)', 'no 11 10'),
+    (b'gone || readable(1x)', 'no 12 17'), (b'vault && older_than(30D)', 'no 13 20'), (b'vault || any()', 'no 14 9'),
+    (b'(' * 65 + b'gone' + b')' * 65, 'no 15 64'))
+
+
+def damaged():
+    """Images that break the layout, each in a way of its own."""
+    yes, base = (OLDER, 1, 0), of(MIXED)
+    return (
+        b'', b'\x00' * 4, base[:3], base[:4], base[:-1], base + b'\x00', packed([yes], n=0), packed([yes], n=2), packed([yes], m=1),
+        packed([yes], b'a'), packed([(6, 1, 0)]), packed([yes, (255, 2, 0)]), packed([(OLDER, 0, 0)]), packed([(READABLE, 2, 1)]),
+        packed([yes, (ALL, 1, 0)]), packed([yes, (ANY, 3, 0)]), packed([yes, (ANY, 258, 0)]), packed([(AT_LEAST, 1, 0)]),
+        packed([yes, yes]), packed([yes, yes, (ALL, 2, 0)]), packed([yes, yes, (ALL, 3, 0), (ANY, 2, 0), (ANY, 5, 0)]),
+        packed([yes, yes, (ALL, 3, 0), (ANY, 3, 0), (ANY, 5, 0)]), packed([(ANY, 2, 0), yes]), packed([yes, (ALL, 2, 1)]),
+        packed([yes, (ANY, 2, 2 ** 63)]), packed([name_at(1, 3)], b'nas'), packed([name_at(0, 2)], b'nas'),
+        packed([name_at(0, 4)], b'nas'), packed([name_at(0, 3), name_at(0, 3), (ANY, 3, 0)], b'nas'),
+        packed([name_at(0, 3)], b'n\x80s'), packed([name_at(0, 3)], b'nas', m=2), packed([(NAMED, 1, 2 ** 48 + 3)], b'nas'))
+
+
+def broken_tables():
+    """Tables that break the layout, each in a way of its own; some of them without a store, or with a name twice."""
+    entries = [(0, b'nas'), (2, b''), (1, b'vault')]
+    whole = table(*entries)
+    found = [b'', b'\x00', b'\x00' * 3, b'\x00' * 5, table() + b'a', table(total=1), table(many=1), table(many=256), of(b'nas')]
+    found += [whole[:-1], whole + b'\x00', whole[:4], whole[:7], whole[:10]]
+    found += [table(*entries, total=total) for total in (7, 8 + 256)]
+    found += [table(*entries, many=many) for many in (2, 4, 3 + 256)]
+    found += [whole[:7] + bytes(lengths) + whole[10:] for lengths in ((3, 0, 4), (3, 1, 5), (255, 255, 10))]
+    found += [table((3, b'nas'), (0, b'vault')), table((0, b'nas'), (255, b'vault')), table((4, b'nas'), (0, b'nas'))]
+    found += [table((0, b'n\x80s')), table((0, b'nas'), (2, b'vaul\xff')), table((0, b'\x80'), (0, b'\x80'))]
+    return found + [table(*[(0, b'%d' % index) for index in range(65)]), table(*[(0, b'')] * 65)]
+
+
+def stage_cases():
+    note('Texts that are no rule, and damaged images: before every table')
+    for stores in (HOME, table(), TWINS, BROKEN, b'', table() + b'a'):
+        for text, answer in REFUSED:
+            judged(text, stores, answer)
+    for stores in (HOME, table(), TWINS, BROKEN):
+        for data in damaged():
+            checked(data, stores, 'no 16 0')
+    note('Tables that break the layout: before twins, unknown names and what the rule says')
+    for stores in broken_tables():
+        for text in (b'nas && vault', b'gone', b'readable(0)'):
+            both(text, stores, 'no 17 0')
+    note('Twins: before unknown names and what the rule says')
+    for names, place in (((b'nas', b'vault', b'nas'), 2), ((b'vault', b'nas', b'nas'), 2),
+                         ((b'nas', b'nas', b'vault', b'vault'), 1), ((b'nas', b'vault', b'vault', b'nas'), 2),
+                         ((b'', b'nas', b'', b'vault'), 2), ((b'', b''), 1)):
+        for modes in ((0, 2), (2, 2), (2, 1)):
+            stores = table(*[(modes[index % 2], name) for index, name in enumerate(names)])
+            for text in (b'nas', b'gone', b'readable(0)', b'nas || vault'):
+                both(text, stores, 'no 18 %d' % place)
+    note('Unknown names: before what the rule says')
+    for text, place in ((b'at_least(0, gone)', 0), (b'readable(0) || gone', 1), (b'gone || readable(0)', 0), (b'vault || gone', 1),
+                        (b'older_than(0s) || vault && gone', 2), (b'gone && vault', 0), (b'readable(1) && gone', 1),
+                        (b'at_least(0, vault, vault) || at_least(9, gone)', 3), (b'all(vault, any(vault, gone))', 2)):
+        both(text, HOME, 'no 20 %d' % place)
+        both(text, LONE, 'no 20 %d' % place)
+    both(b'nas && gone', HOME, 'no 20 1')
+    both(b'nas && gone', LONE, 'no 20 0')
+    both(b'vault || nas', LONE, 'no 20 1')
+    note('The first of several unknown names, by its node')
+    for text, place in ((b'x', 0), (b'x || y', 0), (b'nas && (x || y)', 1), (b'any(all(nas, vault), x, all(y))', 3),
+                        (b'(nas && vault) && x', 2), (b'nas && (vault && x)', 2), (b'nas || vault && x', 2),
+                        (b'nas && vault || x || y', 3), (b'any(nas) && any(vault) && x', 4), (b'any(nas) || x', 1),
+                        (b'older_than(1d) && readable(2) && x && nas', 2), (b'at_least(1, at_least(1, at_least(1, x)))', 0),
+                        (b'all(any(nas), any(all(vault, at_least(1, nas, x))), y)', 4),
+                        (b'at_least(0, nas, any(older_than(0s), all(readable(0), y)), x)', 3),
+                        (b'nas && nas && nas && nas && Nas', 4), (b'all(all(all(nas)), all(all(x)), y)', 3),
+                        (b"any(any(nas, any(nas, any(nas, any(nas, '')))), x)", 4)):
+        both(text, HOME, 'no 20 %d' % place)
+        both(text, stores_of(vault=2, nas=2), 'no 20 %d' % place)
+    for deep in (1, 10, 63, 64):
+        both(b'any(nas, ' * deep + b'gone' + b')' * deep, HOME, 'no 20 %d' % deep)
+        both(b'any(' * deep + b'nas' + b')' * deep + b' && gone', HOME, 'no 20 %d' % (deep + 1))
+        both(b'any(' * deep + b'nas' + b', gone)' * deep, HOME, 'no 20 1')
+    note('Unconfirmed: before archive only')
+    for text in (b'readable(0) || vault', b'vault || older_than(1d)', b'at_least(0, vault)', b'at_least(1, vault, readable(0))',
+                 b'all(readable(0), older_than(0s), any(readable(0), vault))', b'at_least(2, readable(0), vault, older_than(30d))'):
+        for stores in (LONE, HOME, stores_of(vault=0), stores_of(vault=1, nas=2)):
+            both(text, stores, BARE)
+
+
+def storeless_cases():
+    note('Tables without stores: every rule passes, and every other refusal stands')
+    for text in (b'nas', b'gone || nas', b'readable(0)', b'readable(1)', b'at_least(0, gone)', b'older_than(0s)',
+                 b'older_than(30d) || vault', b"''", b'at_least(2, older_than(30d), vault)', b'x' * 300):
+        both(text, table(), PASS)
+    for stores in (table() + b'\x00', b'\x00' * 3, table(total=1), table(many=1), table(many=256)):
+        both(b'nas', stores, 'no 17 0')
+    checked(packed([name_at(0, 2)], b'\x00\x7f'), table(), PASS)
+    checked(packed([name_at(0, 2)], b'\x00\x80'), table(), 'no 16 0')
+
+
+def store_name_cases():
+    note('Names that are nearly a store\'s')
+    for name in (b'Nas', b'NAS', b'na', b'nass', b'nas ', b' nas', b'as', b'nat', b'oas', b'nbs', b'', b'nasvault', b'vaul',
+                 b'sv', b'\x00'):
+        both(b'"%s"' % name, HOME, 'no 20 0')
+        both(b'nas && "%s"' % name, HOME, 'no 20 1')
+    for text in (b'a', b'b', b'bc', b'abc', b"''", b'a && b', b'd'):
+        both(text, stores_of(ab=0, cd=2), 'no 20 0')
+    both(b'ab && cd', stores_of(ab=0, cd=2), PASS)
+    both(b'a && b', stores_of(ab=2, a=2, b=2), ARCHIVE)
+    both(b'a && b', stores_of(ab=2, a=2, b=0), PASS)
+    note('Empty names')
+    for mode in range(3):
+        both(b"''", table((mode, b'')), ARCHIVE if mode == 2 else PASS)
+        both(b"'' && nas", table((mode, b''), (2, b'nas')), ARCHIVE if mode == 2 else PASS)
+        both(b"nas || ''", table((0, b'nas'), (mode, b''), (0, b'desk')), ARCHIVE if mode == 2 else PASS)
+        both(b'nas', table((0, b'nas'), (mode, b'')), PASS)
+        both(b'nas', table((mode, b''), (2, b'nas')), ARCHIVE)
+    both(b"nas && '' && vault", HOME, 'no 20 1')
+    note('Names of 255 bytes and more')
+    wide = [filled(b'%02d' % index, b'x', b'', 255) for index in range(STORES)]
+    three = table((2, wide[0]), (0, wide[1]), (2, b'x'))
+    for text, answer in ((wide[0], ARCHIVE), (wide[1], PASS), (wide[0] + b' && x', ARCHIVE), (wide[1] + b' && ' + wide[0], PASS),
+                         (wide[0][:-1], 'no 20 0'), (wide[0][:-1] + b'y', 'no 20 0'), (b'y' + wide[0][1:], 'no 20 0'),
+                         (wide[0] + b'x', 'no 20 0'), (wide[1] + b' && x && ' + wide[0] + b'x', 'no 20 2')):
+        both(text, three, answer)
+    long = filled(b'', b'long-name.', b'', 600)
+    for size in (256, 257, 512, 600):
+        both(long[:size], table((0, long[:255]), (0, long[:size % 256])), 'no 20 0')
+    both(long[:511], table((0, long[:255]), (0, long[256:511])), 'no 20 0')
+    judged(wide[63] + b' && ' + wide[1], table(*[(2 if index % 2 else 0, name) for index, name in enumerate(wide)]), ARCHIVE)
+    judged(wide[63], table(*[(0, name) for name in wide[:63]], (0, wide[40])), 'no 18 63')
+    note('Names of other bytes')
+    for name in (b'\x00', b'\x00\x7f', b'x y', b'a,b', b"it's", b'and'):
+        for mode in (1, 2):
+            both(b'"%s"' % name, table((mode, name)), ARCHIVE if mode == 2 else PASS)
+        both(b'"%s"' % name, table((1, name + b'!')), 'no 20 0')
+    checked(packed([name_at(0, 2)], b'"\''), table((2, b'"\'')), ARCHIVE)
+
+
+def full_tables():
+    note('64 stores and 65')
+    names = [b'%d' % index for index in range(65)]
+    modes = [(0, 2, 1, 2)[index % 4] for index in range(65)]
+    archive = [name for name, mode in zip(names[:64], modes) if mode == 2]
+    stores = table(*zip(modes[:64], names[:64]))
+    listed = b', '.join(names[:64])
+    for text, answer in ((b'all(%s)' % b', '.join(archive), ARCHIVE), (b'all(%s)' % b', '.join(archive + [b'0']), PASS),
+                         (b'all(%s)' % b', '.join([b'62'] + archive), PASS), (b'any(%s)' % listed, ARCHIVE),
+                         (b'any(%s)' % b', '.join(names[0:64:2]), PASS), (b'at_least(32, %s)' % listed, ARCHIVE),
+                         (b'at_least(33, %s)' % listed, PASS), (b'at_least(0, %s)' % listed, BARE), (b'readable(64)', PASS),
+                         (b'63', ARCHIVE), (b'62', PASS), (b'64', 'no 20 0'), (b'any(%s, 64)' % listed, 'no 20 64'),
+                         (b'any(0, 64, 65)', 'no 20 1'), (b'readable(1) && 63', PASS), (b'readable(1) || 63', ARCHIVE)):
+        both(text, stores, answer)
+    for mode, answer in ((0, PASS), (1, PASS), (2, ARCHIVE)):
+        both(b'all(%s)' % listed, table(*[(2, name) for name in names[:63]], (mode, b'63')), answer)
+        both(b'all(%s)' % listed, table((mode, b'0'), *[(2, name) for name in names[1:64]]), answer)
+        both(b'any(%s)' % listed, table(*[(0, name) for name in names[:63]], (mode, b'63')), answer)
+    both(b'63', table(*zip(modes, names)), 'no 17 0')
+    for first, second in ((0, 63), (62, 63), (31, 32), (0, 1)):
+        twins = [name if index != second else names[first] for index, name in enumerate(names[:64])]
+        both(b'gone', table(*zip(modes, twins)), 'no 18 %d' % second)
+    for size in (1, 2, 62, 63):
+        both(b'any(%s)' % b', '.join(names[:size + 1]), table(*[(2, name) for name in names[:size]]), 'no 20 %d' % size)
+        both(b'all(%s)' % b', '.join(names[:size]), table(*[(2, name) for name in names[:size]]), ARCHIVE)
+
+
+def turned_cases():
+    note('An image, a text and a table with a bit of each byte turned')
+    text = b'at_least(2, all(nas, older_than(1d)), any(vault, readable))'
+    data = of(text)
+    for mask in (1, 4, 128):
+        for at in range(len(data)):
+            checked(data[:at] + bytes([data[at] ^ mask]) + data[at + 1:], HOME)
+        for at in range(len(text)):
+            judged(text[:at] + bytes([text[at] ^ mask]) + text[at + 1:], HOME)
+        for at in range(len(HOME)):
+            both(text, HOME[:at] + bytes([HOME[at] ^ mask]) + HOME[at + 1:])
+
+
+def large_rules():
+    note('Images of 2,048 nodes, nested and flat')
+
+    def nested(kind, argument, deep, leaf, name=b''):
+        return packed([leaf] + [(kind, 2 + level, argument) for level in range(deep)], name)
+
+    checked(nested(ALL, 0, 2047, name_at(0, 3), b'nas'), HOME, PASS)
+    checked(nested(ANY, 0, 2047, name_at(0, 5), b'vault'), HOME, ARCHIVE)
+    checked(nested(ALL, 0, 2047, (OLDER, 1, MOST)), HOME, BARE)
+    checked(nested(AT_LEAST, 1, 2047, name_at(0, 4), b'gone'), HOME, 'no 20 0')
+    checked(nested(AT_LEAST, 2, 2047, (READABLE, 1, 0)), HOME, PASS)
+    checked(nested(ALL, 0, 2048, name_at(0, 3), b'nas'), HOME, 'no 16 0')
+    nodes = [name_at(index, 1) for index in range(2047)]
+    checked(packed(nodes + [(ALL, 2048, 0)], b'v' * 2046 + b'n'), stores_of(n=0, v=2), PASS)
+    checked(packed(nodes + [(ANY, 2048, 0)], b'n' * 2046 + b'x'), stores_of(n=0, v=2), 'no 20 2046')
+    checked(packed(nodes + [(AT_LEAST, 2048, 1023)], (b'nv' * 1024)[:2047]), stores_of(n=0, v=2), ARCHIVE)
+    checked(packed(nodes[:600] + [(AT_LEAST, 601, 301)], b'nv' * 300), stores_of(n=0, v=2), PASS)
+    checked(packed([name_at(0, 2048)], b'v' * 2048), stores_of(v=2), 'no 20 0')
+    note('Texts of 2,048 bytes and 2,049')
+    for text, answer in ((b'nas', PASS), (b'vault', ARCHIVE), (b'readable(0)', BARE), (b'nas && gone', 'no 20 1'),
+                         (b'nas &', 'no 4 4')):
+        judged(filled(text, b' ', b'', 2048), HOME, answer)
+    judged(filled(b'nas', b' ', b'', 2049), HOME, 'no 2 0')
+    judged(filled(b'gone &', b' ', b'', 2049), HOME, 'no 2 0')
+    judged(filled(b'', b' ', b'vault', 2048), HOME, ARCHIVE)
+    judged(filled(b'', b' ', b'vault', 2049), HOME, 'no 2 0')
+    judged(filled(b'', b'v&&', b'vv', 2048), stores_of(v=2, vv=2, vvv=2), ARCHIVE)
+    judged(filled(b'', b'v||', b'nn', 2048), stores_of(v=1, n=0), 'no 20 682')
+    judged(b'any(' + b','.join([b'n'] * 1021 + [b'v']) + b')', stores_of(n=0, v=2), ARCHIVE)
+    judged(b'all(' + b','.join([b'v'] * 1021 + [b'n']) + b')', stores_of(n=0, v=2), PASS)
+    judged(b'any(' + b','.join([b'n'] * 1021 + [b'x']) + b')', stores_of(n=0, v=2), 'no 20 1021')
+    judged(b'a' * 2048, HOME, 'no 20 0')
+    judged(b'a' * 2049, HOME, 'no 2 0')
+    note('64 brackets and 65')
+    for start in (b'(', b'any(', b'all(', b'at_least(1,'):
+        for text, answer in ((b'nas', PASS), (b'vault', ARCHIVE), (b'gone', 'no 20 0')):
+            both(start * 64 + text + b')' * 64, HOME, answer)
+            judged(start * 65 + text + b')' * 65, HOME, 'no 15 %d' % (64 * len(start) + start.index(b'(')))
+    both(b'(' * 63 + b'readable(0)' + b')' * 63, HOME, BARE)
+    judged(b'(' * 64 + b'readable(0)' + b')' * 64, HOME, 'no 15 72')
+
+
+SPAN_CHOICE = [0, 1, 999, DAY - 1, DAY, 30 * DAY]
+QUOTED = [b'a', b'b', b'nas', b'vault', b'cellar', b'', b'x y', b'and', b'Nas']
+
+
+def drawn_verdict(draw, depth, names):
+    """A rule whose leaves are mostly names."""
+    pick = draw.below(10) if depth else draw.below(6)
+    if pick < 4:
+        return [NAMED, draw.of(names), []]
+    if pick == 4:
+        return [OLDER, draw.of(SPAN_CHOICE), []]
+    if pick == 5:
+        return [READABLE, draw.of([0, 1, 1, 2, 3]), []]
+    kind = draw.of([AT_LEAST, AT_LEAST, ALL, ALL, ANY])
+    many = 1 + draw.below(4)
+    children = [drawn_verdict(draw, depth - 1, names) for _ in range(many)]
+    return [kind, draw.below(many + 2) if kind == AT_LEAST else 0, children]
+
+
+def text_of(rule):
+    """A text that reads as the rule, its names quoted."""
+    kind, argument, children = rule
+    if kind == NAMED:
+        return b'"%s"' % argument
+    if kind == OLDER:
+        return b'older_than(%dms)' % argument if argument % DAY else b'older_than(%dd)' % (argument // DAY)
+    if kind == READABLE:
+        return b'readable(%d)' % argument
+    start = b'at_least(%d, ' % argument if kind == AT_LEAST else b'all(' if kind == ALL else b'any('
+    return start + b', '.join(map(text_of, children)) + b')'
+
+
+def drawn_verdicts():
+    note('Drawn: rules over tables, most of them naming only stores of the table')
+    draw, answers = Draw(20260803), []
+    for way in range(260):
+        stores, left = [], list(QUOTED)
+        for _ in range(1 + draw.below(5)):
+            stores.append((draw.of([0, 1, 2, 2]), left.pop(draw.below(len(left)))))
+        names = [name for _, name in stores] + (left[:1] if way % 4 == 0 else [])
+        rule = drawn_verdict(draw, 1 + draw.below(3), names)
+        if rule_in(text_of(rule)) != rule:
+            sys.exit('%r does not read as %r' % (text_of(rule), rule))
+        answers.append(both(text_of(rule), table(*stores))[:5])
+    for answer in ('pass', 'no 20', 'no 21', 'no 22'):
+        if answers.count(answer) < 15:
+            sys.exit('drawn verdicts have too few of %s' % answer)
+    note('Drawn: texts, some with a token or two changed, over tables of most of their names')
+    words = [b'a', b'nas', b'vault', b'b-1', b'x y', b'', b'2', b'30d', b'any', b'and', b'OR']
+    for way in range(120):
+        found = drawn(draw, 3)
+        for _ in range(draw.below(3) if way % 3 == 0 else 0):
+            found[draw.below(len(found))] = draw.of(MENDS + FAULTS)
+        entries = [(draw.of([0, 1, 2, 2]), word) for word in words if way % 2 or draw.below(6)]
+        if way % 20 == 7:
+            entries.append(entries[draw.below(len(entries))])
+        judged(spaced(draw, found), table(*entries) + b'\x00' * (way % 25 == 9))
+
+
+def all_verdicts():
+    """Each answer must have its cases, and enough verdicts must have been held to decisions."""
+    wanted = [('check', sort) for sort in ['pass'] + ['no %d' % n for n in (16, 17, 18, 20, 21, 22)]]
+    wanted += [('judge', sort) for sort in ['pass'] + ['no %d' % n for n in list(range(2, 16)) + [17, 18, 20, 21, 22]]]
+    if sorted(wanted) != sorted(verdicts):
+        sys.exit('missed or not expected: %r' % sorted(set(wanted) ^ set(verdicts)))
+    for answer in (PASS, BARE, ARCHIVE):
+        if list(held.values()).count(answer) < 100:
+            sys.exit('too few verdicts are held to decisions: %s' % answer)
+
+
 def main():
     note('read TEXT BUFFER no NUMBER PLACE, or read TEXT BUFFER ok IMAGE; the text and the image in hex')
     for part in (sheet, orders, depths, word_cases, count_cases, duration_cases, list_cases, chain_cases,
@@ -1608,6 +2143,10 @@ def main():
     note('decide IMAGE STORES AGE LIST evict, or keep, or no NUMBER PLACE; image, table and list in hex')
     for part in (decided_sheet, named_cases, older_cases, readable_cases, combined_cases, nested_cases,
                  image_cases, flipped_cases, table_cases, refusal_orders, large_images, drawn_decisions):
+        part()
+    note('check IMAGE STORES pass, or no NUMBER PLACE; judge TEXT STORES pass, or no NUMBER PLACE; all in hex')
+    for part in (verdict_sheet, archive_cases, mode_cases, stage_cases, storeless_cases, store_name_cases, full_tables,
+                 turned_cases, large_rules, drawn_verdicts, all_verdicts):
         part()
     sys.stdout.write('\n'.join(out) + '\n')
     sys.stderr.write('%d cases\n' % len(seen))

@@ -2,104 +2,60 @@
 // and the confirmed list in hex, the age in decimal.
 use crate::fields::Found;
 use crate::fields::Wide;
-use crate::fields::blanks;
 use crate::fields::bytes;
 use crate::fields::field;
 use crate::fields::front;
+use crate::fields::rest;
 use crate::fields::wide_decimal;
 use crate::outcome::Answer;
 use crate::outcome::Outcome;
 use crate::outcome::Wanted;
-use crate::outcome::refusal;
+use crate::outcome::accepted;
+use crate::outcome::compare;
+use crate::outcome::expected_refusal;
+use crate::outcome::refused;
 use decide::Decision;
 
 // As an answer, evict has the value 1 and keep the value 0.
 fn answer_of(decision: Decision) -> Answer {
     match decision {
-        Decision::Evict => Answer {
-            number: 0,
-            value: 1,
-        },
-        Decision::Keep => Answer {
-            number: 0,
-            value: 0,
-        },
-        Decision::Refused(f) => Answer {
-            number: f.number as u64,
-            value: f.place as u64,
-        },
+        Decision::Evict => accepted(1),
+        Decision::Keep => accepted(0),
+        Decision::Refused(f) => refused(f),
     }
 }
 
-// One of the two decisions, where the line ends with it.
-fn expected_decision(line: &[u8], decision: Decision) -> Wanted {
-    if blanks(line) != 5 {
-        return Wanted::Nothing;
+// The answer that the end of a line expects.
+fn expected(end: &[u8]) -> Wanted {
+    if ascii::eq(end, b"evict") {
+        return Wanted::Answer(answer_of(Decision::Evict));
     }
-    Wanted::Answer(answer_of(decision))
-}
-
-// A refusal, where the line ends with its number and its place.
-fn expected_refusal(line: &[u8]) -> Wanted {
-    if blanks(line) != 7 {
-        return Wanted::Nothing;
+    if ascii::eq(end, b"keep") {
+        return Wanted::Answer(answer_of(Decision::Keep));
     }
-    refusal(field(line, 6), field(line, 7))
-}
-
-// The answer that a line expects.
-fn expected(line: &[u8]) -> Wanted {
-    let word = field(line, 5);
-    if ascii::eq(word, b"evict") {
-        return expected_decision(line, Decision::Evict);
-    }
-    if ascii::eq(word, b"keep") {
-        return expected_decision(line, Decision::Keep);
-    }
-    if ascii::eq(word, b"no") {
-        return expected_refusal(line);
+    if ascii::eq(field(end, 0), b"no") {
+        return expected_refusal(end);
     }
     Wanted::Nothing
 }
 
-// Decides, and compares the answer.
-fn compare(image: &[u8], stores: &[u8], age: u64, list: &[u8], hoped: Answer) -> Outcome {
-    let answer = answer_of(decide::decide(image, stores, age, list));
-    if answer.number == hoped.number && answer.value == hoped.value {
-        return Outcome::Agrees;
-    }
-    Outcome::Answers(answer)
-}
-
 // Runs the case with the list of a line, after the image, the table and the age.
 fn with_list(line: &[u8], image: &[u8], stores: &[u8], age: u64) -> Outcome {
-    let Wanted::Answer(hoped) = expected(line) else {
+    let Wanted::Answer(hoped) = expected(rest(line, 5)) else {
         return Outcome::Unreadable;
     };
     let mut list = [0u8; 32768];
     let Found::Number(size) = bytes(field(line, 4), &mut list) else {
         return Outcome::Unreadable;
     };
-    compare(image, stores, age, front(&list, size), hoped)
+    let decision = decide::decide(image, stores, age, front(&list, size));
+    compare(answer_of(decision), hoped)
 }
 
-// Runs the case with the table and the age of a line, after the image.
-fn with_stores(line: &[u8], image: &[u8]) -> Outcome {
-    let mut stores = [0u8; 32768];
-    let Found::Number(size) = bytes(field(line, 2), &mut stores) else {
-        return Outcome::Unreadable;
-    };
+// Runs the case on a line, its image and its table of stores being there.
+pub fn run(line: &[u8], image: &[u8], stores: &[u8]) -> Outcome {
     let Wide::Number(age) = wide_decimal(field(line, 3)) else {
         return Outcome::Unreadable;
     };
-    with_list(line, image, front(&stores, size), age)
-}
-
-// Runs the case on a line.
-pub fn run(line: &[u8]) -> Outcome {
-    let mut image = [0u8; 32768];
-    let Found::Number(size) = bytes(field(line, 1), &mut image) else {
-        return Outcome::Unreadable;
-    };
-    with_stores(line, front(&image, size))
+    with_list(line, image, stores, age)
 }

@@ -46,6 +46,15 @@ pub fn field(line: &[u8], index: usize) -> &[u8] {
     &line[..0]
 }
 
+// The line from a field on, counted from 0; empty where the line has fewer.
+pub fn rest(line: &[u8], index: usize) -> &[u8] {
+    let start = field_start(line, index);
+    if start < line.len() {
+        return &line[start..];
+    }
+    &line[..0]
+}
+
 // How many blanks the line has, one less than its fields.
 pub fn blanks(line: &[u8]) -> usize {
     let mut n: usize = 0;

@@ -1,12 +1,16 @@
 // Runs a list of cases from standard input, one on a line, and prints how many there are and how many differ.
 // Lines that are empty or begin with `#` are passed over. A case is the name of a call, what it is given and what it
-// must answer; `run_case` has the calls.
+// must answer: `run_case` has the call `read`, and `run_call` the calls `decide`, `check` and `judge`.
+mod checking;
 mod deciding;
 mod fields;
 mod outcome;
 mod reading;
 
+use crate::fields::Found;
+use crate::fields::bytes;
 use crate::fields::field;
+use crate::fields::front;
 use crate::outcome::Outcome;
 use libc::STDIN_FILENO;
 use libc::STDOUT_FILENO;
@@ -33,15 +37,40 @@ fn one_more(n: u64) -> u64 {
     if n < u64::MAX { n + 1 } else { n }
 }
 
-// Runs the case on a line by the call that its first word names.
+// Runs the case on a line by the call that its first word names, an image or a text and a table of stores being there.
+fn run_call(line: &[u8], given: &[u8], stores: &[u8]) -> Outcome {
+    let word = field(line, 0);
+    if ascii::eq(word, b"decide") {
+        return deciding::run(line, given, stores);
+    }
+    if ascii::eq(word, b"check") {
+        return checking::check(line, given, stores);
+    }
+    if ascii::eq(word, b"judge") {
+        return checking::judge(line, given, stores);
+    }
+    Outcome::Unreadable
+}
+
+// Runs the case with the table of stores of a line, after the image or the text.
+fn with_stores(line: &[u8], given: &[u8]) -> Outcome {
+    let mut stores = [0u8; 32768];
+    let Found::Number(size) = bytes(field(line, 2), &mut stores) else {
+        return Outcome::Unreadable;
+    };
+    run_call(line, given, front(&stores, size))
+}
+
+// Runs the case on a line. Every call but `read` is given an image or a text, and then a table of stores.
 fn run_case(line: &[u8]) -> Outcome {
     if ascii::eq(field(line, 0), b"read") {
         return reading::run(line);
     }
-    if ascii::eq(field(line, 0), b"decide") {
-        return deciding::run(line);
-    }
-    Outcome::Unreadable
+    let mut given = [0u8; 32768];
+    let Found::Number(size) = bytes(field(line, 1), &mut given) else {
+        return Outcome::Unreadable;
+    };
+    with_stores(line, front(&given, size))
 }
 
 // Counts a case in, and shows it where it differs and not too many were shown.

@@ -1,7 +1,10 @@
 // What a case must answer, what it comes to, and how one that differs is shown.
 use crate::fields::Found;
+use crate::fields::blanks;
 use crate::fields::decimal;
+use crate::fields::field;
 use libc::STDOUT_FILENO;
+use refusals::Refusal;
 
 // An answer: a refusal's number and place, or number 0 and the value of an accepted call.
 pub struct Answer {
@@ -24,12 +27,28 @@ pub enum Outcome {
     Answers(Answer),
 }
 
-// A refusal that is expected, from the fields of its number and its place.
-pub fn refusal(number_field: &[u8], place_field: &[u8]) -> Wanted {
-    let Found::Number(number) = decimal(number_field) else {
+// A refusal as an answer.
+pub fn refused(refusal: Refusal) -> Answer {
+    Answer {
+        number: refusal.number as u64,
+        value: refusal.place as u64,
+    }
+}
+
+// The value of an accepted call as an answer.
+pub fn accepted(value: u64) -> Answer {
+    Answer { number: 0, value }
+}
+
+// The refusal that is expected, where a line ends with just `no NUMBER PLACE`.
+pub fn expected_refusal(end: &[u8]) -> Wanted {
+    if blanks(end) != 2 {
+        return Wanted::Nothing;
+    }
+    let Found::Number(number) = decimal(field(end, 1)) else {
         return Wanted::Nothing;
     };
-    let Found::Number(place) = decimal(place_field) else {
+    let Found::Number(place) = decimal(field(end, 2)) else {
         return Wanted::Nothing;
     };
     if number == 0 {
@@ -41,7 +60,20 @@ pub fn refusal(number_field: &[u8], place_field: &[u8]) -> Wanted {
     })
 }
 
-// Shows an answer as the list has it, an image by its length alone.
+// The two are one answer.
+pub fn is_same(a: Answer, b: Answer) -> bool {
+    a.number == b.number && a.value == b.value
+}
+
+// What a case comes to that lends no memory: its answer against the one that is expected.
+pub fn compare(answer: Answer, hoped: Answer) -> Outcome {
+    if is_same(answer, hoped) {
+        return Outcome::Agrees;
+    }
+    Outcome::Answers(answer)
+}
+
+// Shows an answer: a refusal as the list has it, an accepted call by its value.
 fn print_answer(answer: Answer) {
     if answer.number == 0 {
         io::write_all(STDOUT_FILENO, b"ok ");

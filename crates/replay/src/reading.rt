@@ -5,11 +5,15 @@ use crate::fields::bytes;
 use crate::fields::decimal;
 use crate::fields::field;
 use crate::fields::front;
+use crate::fields::rest;
 use crate::fields::unhex;
 use crate::outcome::Answer;
 use crate::outcome::Outcome;
 use crate::outcome::Wanted;
-use crate::outcome::refusal;
+use crate::outcome::accepted;
+use crate::outcome::expected_refusal;
+use crate::outcome::is_same;
+use crate::outcome::refused;
 use expressions::Reading;
 
 // Fills memory with a pattern, so that every byte written can be told from one left alone.
@@ -33,36 +37,26 @@ fn first_difference(a: &[u8], b: &[u8]) -> usize {
     i
 }
 
-// A refusal: its number and its place.
-fn expected_refusal(line: &[u8]) -> Wanted {
-    if blanks(line) != 5 {
+// The image that is expected, where a line ends with just `ok IMAGE`: its length, and its bytes at the front of the memory that is
+// wanted.
+fn expected_image(end: &[u8], wanted: &mut [u8]) -> Wanted {
+    if blanks(end) != 1 {
         return Wanted::Nothing;
     }
-    refusal(field(line, 4), field(line, 5))
-}
-
-// An image: its length, and its bytes at the front of the memory that is wanted.
-fn expected_image(line: &[u8], wanted: &mut [u8]) -> Wanted {
-    if blanks(line) != 4 {
-        return Wanted::Nothing;
-    }
-    let Found::Number(size) = unhex(field(line, 4), wanted) else {
+    let Found::Number(size) = unhex(field(end, 1), wanted) else {
         return Wanted::Nothing;
     };
-    Wanted::Answer(Answer {
-        number: 0,
-        value: size as u64,
-    })
+    Wanted::Answer(accepted(size as u64))
 }
 
-// The answer that a line expects. The memory that is wanted holds the pattern, and an image is written over it.
-fn expected(line: &[u8], wanted: &mut [u8]) -> Wanted {
-    let word = field(line, 3);
+// The answer that the end of a line expects. The memory that is wanted holds the pattern, and an image is written over it.
+fn expected(end: &[u8], wanted: &mut [u8]) -> Wanted {
+    let word = field(end, 0);
     if ascii::eq(word, b"no") {
-        return expected_refusal(line);
+        return expected_refusal(end);
     }
     if ascii::eq(word, b"ok") {
-        return expected_image(line, wanted);
+        return expected_image(end, wanted);
     }
     Wanted::Nothing
 }
@@ -78,14 +72,8 @@ fn front_mut(s: &mut [u8], size: usize) -> &mut [u8] {
 // What reading a text of that size into a buffer of that length answers.
 fn answered(text: &[u8], size: usize, memory: &mut [u8], room: usize) -> Answer {
     match expressions::read(front(text, size), front_mut(memory, room)) {
-        Reading::Read(length) => Answer {
-            number: 0,
-            value: length as u64,
-        },
-        Reading::Refused(f) => Answer {
-            number: f.number as u64,
-            value: f.place as u64,
-        },
+        Reading::Read(length) => accepted(length as u64),
+        Reading::Refused(f) => refused(f),
     }
 }
 
@@ -95,7 +83,7 @@ fn compare(text: &[u8], size: usize, room: usize, wanted: &[u8], hoped: Answer) 
     fill(&mut memory);
     let answer = answered(text, size, &mut memory, room);
     let agree = first_difference(&memory, wanted);
-    if answer.number == hoped.number && answer.value == hoped.value && agree == 30000 {
+    if is_same(answer, hoped) && agree == 30000 {
         return Outcome::Agrees;
     }
     Outcome::Differs {
@@ -118,7 +106,7 @@ pub fn run(line: &[u8]) -> Outcome {
     }
     let mut wanted = [0u8; 30000];
     fill(&mut wanted);
-    let Wanted::Answer(hoped) = expected(line, &mut wanted) else {
+    let Wanted::Answer(hoped) = expected(rest(line, 3), &mut wanted) else {
         return Outcome::Unreadable;
     };
     compare(&text, size, room, &wanted, hoped)
