@@ -3,3 +3,5 @@ pub mod TextLaws
 pub mod Letters
 pub mod LettersLaws
 pub mod TestLaws
+pub mod Written
+pub mod WrittenLaws

@@ -1,6 +1,9 @@
-// Bytes as letters and digits, and two byte strings compared.
+// Bytes as letters and digits, two byte strings compared, and bytes put into a text.
 ghost use mathlib.Core.Path.{_≡_};
+ghost use Prim.Native.Nat.{_≤_};
+ghost use lib.ListN.{length};
 ghost use Rattle.ascii.specs.Letters.{isDigit, lower, foldedIf, equalBy, equal, equalIgnoringCase};
+ghost use Rattle.ascii.specs.Written.{Put};
 
 // The byte is a decimal digit.
 pub fn is_digit(b: u8) -> bool
@@ -60,4 +63,18 @@ pub fn eq_ignore_ascii_case(a: &[u8], b: &[u8]) -> bool
     ensures { λ r. ⌜ r ≡ equalIgnoringCase (now (a .entry)) (now (b .entry)) ⌝ }
 {
     eq_folded(a, b, true)
+}
+
+// Puts a piece so that it ends at a position, and answers where it begins.
+pub fn put(text: &mut [u8], end: usize, piece: &[u8]) -> usize
+    requires { ⌜ (length (now piece) ≤ end) × (end ≤ length (now text)) ⌝ }
+    ensures { λ r. ⌜ Put (now (text .entry)) (now (text .exit)) r end (now (piece .entry)) ⌝ }
+{
+    let start = end - piece.len();
+    let mut i = 0;
+    while i < piece.len() {
+        text[start + i] = piece[i];
+        i += 1;
+    }
+    start
 }

@@ -39,6 +39,7 @@ pub record Whole (s : List ℕ) (n : ℕ) (r : Rule) : Type 0 where
   pub sized : size r ≡ n
   pub stands : Stands r (cellAt s n) 0
   pub inside : Inside s n 0 n
+  pub few : n ≤ 2048
 
 parts-whole : (s : List ℕ) (n m : ℕ) (r : Rule) → decodeParts s n m ≡ some r → Whole s n r
 unfolding decodeParts size Stands NamesInside
@@ -55,6 +56,7 @@ parts-whole s n m r e =
       sized = z;
       stands = b .standing .1;
       inside = record { long = omega arith; names = names; within = omega arith; here = record { rule = r; sized = z; stands = b .standing .1 } };
+      few = few;
     }
 
 -- n is what the first two bytes say
@@ -64,3 +66,6 @@ decode-whole s {n} {r} p e = parts-whole s n (leAt s 2 2) r (rw p e)
 
 pub image-inside : (s : List ℕ) {n : ℕ} → isSome (decode s) ≡ true → n ≡ leAt s 0 2 → Inside s n 0 n
 image-inside s is p = let (r, e) = isSome-true (decode s) is in decode-whole s p e .inside
+
+pub image-few : (s : List ℕ) {n : ℕ} → isSome (decode s) ≡ true → n ≡ leAt s 0 2 → n ≤ 2048
+image-few s is p = let (r, e) = isSome-true (decode s) is in decode-whole s p e .few

@@ -16,8 +16,8 @@ use Rattle.words.specs.declared.Next.the-variants.{Off, To}
 use Rattle.words.specs.declared.Scanned.the-variants.{Clean, Refused}
 use Rattle.words.specs.Token.{ascii, placeOf, nextOf, tokenAt, onward, tokensFrom, scanOf}
 use Rattle.words.specs.TokenLaws.{tokens-are}
-use Rattle.image.specs.Bytes.{written}
-use Rattle.image.specs.WrittenLaws.{written-front}
+use Rattle.ascii.specs.Written.{written}
+use Rattle.ascii.specs.WrittenLaws.{written-front}
 use Rattle.image.specs.Encode.{tags, args, names, imageOf, encode}
 use Rattle.image.specs.EncodeLaws.{length-tags, length-encode}
 use Rattle.grammar.specs.Grammar.{tokenKind, Got, got, bad, orIn}

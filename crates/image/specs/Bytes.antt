@@ -27,7 +27,3 @@ leNumber (b ∷ bs) = b + 256 * leNumber bs
 unfoldable pub leAt : List ℕ → ℕ → ℕ → ℕ
 unfolding leNumber
 leAt s at k = leNumber (take k (drop at s))
-
--- a list with other elements written over its own, from a position on
-unfoldable pub written : List ℕ → ℕ → List ℕ → List ℕ
-written s at bs = take at s ++ (bs ++ drop (at + length bs) s)

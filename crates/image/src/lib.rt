@@ -4,7 +4,8 @@ pub mod valid;
 ghost use mathlib.Core.Path.{_≡_};
 ghost use Prim.Native.Nat.{_+_, _*_, _^_, _≤_, _<_};
 ghost use lib.ListN.{length, take};
-ghost use Rattle.image.specs.Bytes.{leBytes, packed, leAt, written};
+ghost use Rattle.ascii.specs.Written.{written};
+ghost use Rattle.image.specs.Bytes.{leBytes, packed, leAt};
 ghost use Rattle.image.specs.Encode.{imageOf};
 
 // The kinds of nodes.

@@ -4,3 +4,7 @@ pub mod Count
 pub mod CountLaws
 pub mod Duration
 pub mod DurationLaws
+pub mod Digits
+pub mod DigitsLaws
+pub mod DurationText
+pub mod DurationTextLaws

@@ -1,6 +1,8 @@
-// Counts and durations: from a word of the text to a number.
+// Counts and durations: from a word of the text to a number, and from a number to its digits.
 pub mod count;
+pub mod digits;
 pub mod duration;
+pub mod format;
 pub mod unit;
 
 ghost use mathlib.Core.Path.{_≡_};

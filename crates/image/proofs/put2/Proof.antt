@@ -4,7 +4,7 @@ use native.Mathlib.Omega.{arith}
 use borrow.Author.Needs.{needs}
 use lib.ListN.{length-set}
 use Rattle.image.specs.Bytes.{leBytes}
-use Rattle.image.specs.WrittenLaws.{written-sets}
+use Rattle.ascii.specs.WrittenLaws.{written-sets}
 use Rattle.image.proofs.put2.Statement.{statement}
 use Rattle.image.proofs.put2.Tie as tie
 

@@ -4,8 +4,10 @@ use Prim.Native.Nat.{_-_, _≤_}
 use native.Mathlib.Omega.{arith}
 use borrow.Author.Needs.{needs}
 use lib.ListN.{length, take}
-use Rattle.image.specs.Bytes.{packed, written}
-use Rattle.image.specs.WrittenLaws.{written-none, packed-on}
+use Rattle.ascii.specs.Written.{written}
+use Rattle.image.specs.Bytes.{packed}
+use Rattle.ascii.specs.WrittenLaws.{written-none}
+use Rattle.image.specs.WrittenLaws.{packed-on}
 use Rattle.image.proofs.put_tags.Statement.{statement}
 use Rattle.image.proofs.put_tags.Tie as tie
 

@@ -6,10 +6,11 @@ use native.Mathlib.Omega.{arith}
 use borrow.Author.Needs.{needs}
 use lib.ListN.{length, length-append}
 use lib.Seq.{length-take-le}
-use Rattle.image.specs.Bytes.{leBytes, packed, written}
+use Rattle.ascii.specs.Written.{written}
+use Rattle.image.specs.Bytes.{leBytes, packed}
 use Rattle.image.specs.Encode.{imageOf}
 use Rattle.image.specs.BytesLaws.{length-packed}
-use Rattle.image.specs.WrittenLaws.{written-then}
+use Rattle.ascii.specs.WrittenLaws.{written-then}
 use Rattle.image.proofs.write_image.Statement.{statement}
 use Rattle.image.proofs.write_image.Tie as tie
 
