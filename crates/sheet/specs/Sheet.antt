@@ -1,4 +1,4 @@
--- Worked examples of tokens, counts, durations, reading and judging, held together as one table and proved by one statement over
+-- Worked examples of tokens, counts, durations, reading, judging and printing, held together as one table and proved by one statement over
 -- all of its rows. Assumes nothing.
 use mathlib.Core.Path.{_≡_, refl}
 use mathlib.Core.Bool.{true, false}
@@ -27,12 +27,15 @@ use Rattle.image.specs.Encode.{allAscii}
 use Rattle.stores.specs.Names.{has}
 use Rattle.stores.specs.Stores.{sum, allAtMost, wellMade, entriesIn, isReadable, namesOf, readyCount, twinOf}
 use Rattle.decide.specs.Evict.{evict}
+use Rattle.numbers.specs.DurationText.{durationText}
+use Rattle.print.specs.Print.{textOf}
 use Rattle.safety.specs.Check.{unknownIn, checkRule, judgeOf}
 use Rattle.safety.specs.declared.Verdict.{Verdict}
 use Rattle.safety.specs.declared.Verdict.the-variants.{Pass, Refused as NotPassed}
 
 -- a row: a text, and its tokens, its first fault, the number that it is as a count or as a duration, the rule that it reads as
--- with how many nodes that has, the refusal of reading it, its number and its place, or with a table of stores what it is judged
+-- with how many nodes that has, the refusal of reading it, its number and its place, or with a table of stores what it is judged; or
+-- what the rule that it reads as is printed as. And a rule, with what it is printed as
 pub data Row : Type 0 where
   tokens : String → List Token → Row
   scan : String → Scanned → Row
@@ -41,6 +44,8 @@ pub data Row : Type 0 where
   reads : String → Rule → ℕ → Row
   refuses : String → ℕ → ℕ → Row
   judges : List ℕ → String → Verdict → Row
+  reprints : String → String → Row
+  prints : Rule → String → Row
 
 pub data Answer : Type 0 where
   tokenList : List Token → Answer
@@ -49,10 +54,15 @@ pub data Answer : Type 0 where
   aRule : Rule → ℕ → Answer
   aRefusal : Refusal → Answer
   aVerdict : Verdict → Answer
+  aText : List ℕ → Answer
 
 abbrev pub readAnswer : Read → Answer
 readAnswer (rule r) = aRule r (size r)
 readAnswer (refused f) = aRefusal f
+
+abbrev pub printAnswer : Read → Answer
+printAnswer (rule r) = aText (textOf r)
+printAnswer (refused f) = aRefusal f
 
 -- what the definitions give for a row's text
 unfoldable pub answerOf : Row → Answer
@@ -63,6 +73,8 @@ answerOf (duration t n) = parsed (durationOf (bytes t))
 answerOf (reads t r n) = readAnswer (readOf (bytes t))
 answerOf (refuses t n p) = readAnswer (readOf (bytes t))
 answerOf (judges s t v) = aVerdict (judgeOf (bytes t) s)
+answerOf (reprints t u) = printAnswer (readOf (bytes t))
+answerOf (prints r u) = aText (textOf r)
 
 -- what the row says
 unfoldable pub expected : Row → Answer
@@ -73,6 +85,8 @@ expected (duration t n) = parsed n
 expected (reads t r n) = aRule r n
 expected (refuses t n p) = aRefusal (refusal n p)
 expected (judges s t v) = aVerdict v
+expected (reprints t u) = aText (bytes u)
+expected (prints r u) = aText (bytes u)
 
 -- a bare word and a quoted one, from its place up to where the text goes on
 abbrev bare : ℕ → ℕ → Token
@@ -81,12 +95,15 @@ bare p n = Word p p n false n
 abbrev fault : ℕ → ℕ → Token
 fault n p = Fault (refusal n p)
 
--- rules: a name, and a combinator over two rules or three
+-- rules: a name, and a combinator over one rule, two or three
 abbrev name : String → Rule
 name w = leaf (named (bytes w))
 
 abbrev two : Join → Rule → Rule → Rule
 two j q r = node j (more nil q) r
+
+abbrev one : Join → Rule → Rule
+one j r = node j nil r
 
 abbrev three : Join → Rule → Rule → Rule → Rule
 three j p q r = node j (more (more nil p) q) r
@@ -200,11 +217,33 @@ rows =
     judges twins "desk" (no twinName 1) ∷
     judges [] "desk" (no badStoreTable 0) ∷
     judges [] "any()" (no emptyList 0) ∷
+    reprints "a && (b && c)" "a && b && c" ∷
+    reprints "a && b || c" "a && b || c" ∷
+    reprints "a && (b || c)" "a && (b || c)" ∷
+    reprints "(a || b) and ANY(c, d)" "(a || b) && (c || d)" ∷
+    reprints "a || (b && (c || d))" "a || b && (c || d)" ∷
+    reprints "at_least(2, nas, any(a, b), all(c, d))" "at_least(2, nas, a || b, c && d)" ∷
+    reprints "READABLE && older_than('1h 30m')" "readable(1) && older_than(1h30m)" ∷
+    prints (one all (name "a")) "a" ∷
+    prints (one any (name "a")) "a" ∷
+    prints (two all (one any (name "a")) (name "b")) "(a) && b" ∷
+    prints (one all (one any (name ""))) "()" ∷
+    prints (two any (name "") (name "")) " || " ∷
+    prints (one (atLeast 0) (name "field tapes")) "at_least(0, field tapes)" ∷
+    prints (leaf (readable 0)) "readable(0)" ∷
+    prints (leaf (readable 18_446_744_073_709_551_615)) "readable(18446744073709551615)" ∷
+    prints (leaf (olderThan 0)) "older_than(0s)" ∷
+    prints (leaf (olderThan 18_446_744_073_709_551_615)) "older_than(213503982334d14h25m51s615ms)" ∷
+    prints (leaf (olderThan 86_399_999_913_600_000)) "older_than(999999999d)" ∷
+    prints (leaf (olderThan 3_599_999_996_400_000)) "older_than(41666666d15h)" ∷
+    prints (leaf (olderThan 59_999_999_940_000)) "older_than(694444d10h39m)" ∷
+    prints (leaf (olderThan 999_999_999_000)) "older_than(11574d1h46m39s)" ∷
+    prints (leaf (olderThan 999_999_999)) "older_than(11d13h46m39s999ms)" ∷
     []
 
 -- by computation, over all rows at once
 rows-computed : map answerOf rows ≡ map expected rows
-unfolding answerOf expected run runEnd part lower equalBy classOf ofClass other doubled quotedTo quotedAt bareTo bareAt tokenOf startAt tokenAt nextOf tokensBy tokensFrom scanOf countOf durationOf ascii placeOf size after firstPlace dueIn olderThanHead readableHead atLeastHead functionOf bareLeaf headIn leftRules chain orIn parseOf readOf leAt allAscii has sum allAtMost wellMade entriesIn isReadable namesOf readyCount twinOf evict unknownIn checkRule judgeOf
+unfolding answerOf expected run runEnd part lower equalBy classOf ofClass other doubled quotedTo quotedAt bareTo bareAt tokenOf startAt tokenAt nextOf tokensBy tokensFrom scanOf countOf durationOf ascii placeOf size after firstPlace dueIn olderThanHead readableHead atLeastHead functionOf bareLeaf headIn leftRules chain orIn parseOf readOf leAt allAscii has sum allAtMost wellMade entriesIn isReadable namesOf readyCount twinOf evict unknownIn checkRule judgeOf durationText textOf
 rows-computed = refl
 
 -- each row holds

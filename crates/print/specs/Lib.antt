@@ -1,0 +1,7 @@
+pub mod Print
+pub mod Pieces
+pub mod Printed
+pub mod PiecesLaws
+pub mod ChildrenLaws
+pub mod PutLaws
+pub mod PrintedLaws

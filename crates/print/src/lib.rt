@@ -1,0 +1,40 @@
+// Printing: from a rule image to the rule's text in a lent buffer. The text's length is counted first; then it is put into the
+// buffer from its end to its beginning, a combinator's last child first.
+pub mod put;
+pub mod size;
+
+ghost use mathlib.Core.Path.{_≡_};
+ghost use Rattle.print.specs.Printed.{outcome, printInto};
+use crate::put::put_rule;
+use crate::size::text_size;
+use image::le2;
+use image::valid::is_image;
+use refusals::Refusal;
+
+// What printing answers: the length of the text written, or a refusal.
+pub enum Printing {
+    Printed(usize),
+    Refused(Refusal),
+}
+
+fn refuse(number: u8, place: usize) -> Printing
+    ensures { λ r. ⌜ r ≡ Printing.Refused (record { number = number; place = place }) ⌝ }
+{
+    Printing::Refused(Refusal { number, place })
+}
+
+// Prints the rule of an image into the front of a lent buffer.
+pub fn print(image: &[u8], text: &mut [u8]) -> Printing
+    ensures { λ r. ⌜ outcome r (now (text .exit)) ≡ printInto (now (image .entry)) (now (text .entry)) ⌝ }
+{
+    if !is_image(image) {
+        return refuse(refusals::BAD_IMAGE, 0);
+    }
+    let n = le2(image, 0) as usize;
+    let size = text_size(image, n, 0, n);
+    if text.len() < size {
+        return refuse(refusals::SHORT_BUFFER, 0);
+    }
+    put_rule(image, n, 0, n, text, size);
+    Printing::Printed(size)
+}
