@@ -8,11 +8,14 @@ the lent buffer, and either `no NUMBER PLACE` or `ok IMAGE`, the bytes written i
 `decide IMAGE STORES AGE LIST ANSWER`: the image, the table of stores and the confirmed list in hex
 (`-` where empty), the age in decimal, and `evict`, `keep` or `no NUMBER PLACE`.
 `check IMAGE STORES ANSWER` and `judge TEXT STORES ANSWER`: the image or the text and the table of
-stores in hex, and `pass` or `no NUMBER PLACE`. The answers come from the small reader, decider and
-checker below, which follow document 01 sentence by sentence. Where document 01 or the list of traps
-states an answer itself, they are held to it first. Where the table is small, a pass, a 21 and a 22
-are held to what the decisions for every confirmed list and the ages that matter show, by demand 3.
-The list is the same bytes on every run.
+stores in hex, and `pass` or `no NUMBER PLACE`. `print IMAGE BUFFER ANSWER`: the image in hex, the
+length of the lent buffer, and either `no NUMBER PLACE` or `ok TEXT`, the bytes written in hex (`-`
+where there are none). The answers come from the small reader, decider, checker and printer below,
+which follow document 01 sentence by sentence. Where document 01 or the list of traps states an
+answer itself, they are held to it first. Where the table is small, a pass, a 21 and a 22 are held to
+what the decisions for every confirmed list and the ages that matter show, by demand 3. Where a
+printed text can be read again, it must read as the rule that was printed, as far as a text tells
+rules apart. The list is the same bytes on every run.
 """
 import sys
 
@@ -412,6 +415,48 @@ def judge(text, stores):
         return verdict(rule_in(text), stores)
     except Refused as refused:
         return 'no %d %d' % (refused.number, refused.place)
+
+
+# Printing, as document 01 lays it down
+
+
+def printed_duration(span):
+    """The text of a duration: its nonzero parts, the units falling, each part less than one of the unit before it."""
+    parts = b''
+    for unit, worth in UNITS:
+        many, span = divmod(span, worth)
+        if many:
+            parts += b'%d%s' % (many, unit)
+    return parts or b'0s'
+
+
+def printed(rule):
+    """The text of a rule: brackets only round an any directly under an all."""
+    kind, argument, children = rule
+    if kind == NAMED:
+        return argument
+    if kind == OLDER:
+        return b'older_than(%s)' % printed_duration(argument)
+    if kind == READABLE:
+        return b'readable(%d)' % argument
+    below = []
+    for child in children:
+        text = printed(child)
+        below.append(b'(%s)' % text if kind == ALL and child[0] == ANY else text)
+    if kind == AT_LEAST:
+        return b'at_least(%d, %s)' % (argument, b', '.join(below))
+    return (b' && ' if kind == ALL else b' || ').join(below)
+
+
+def printing(data, room):
+    """What printing answers: ('ok', text) or ('no', number, place)."""
+    try:
+        text = printed(rule_of(data))
+        if room < len(text):
+            raise Refused(SHORT, 0)
+        return ('ok', text)
+    except Refused as refused:
+        return ('no', refused.number, refused.place)
 
 
 # The list
@@ -2132,6 +2177,342 @@ def all_verdicts():
         if list(held.values()).count(answer) < 100:
             sys.exit('too few verdicts are held to decisions: %s' % answer)
 
+# The cases of print
+
+# The memory that `replay` lends, and the longest text: 2,046 durations of 39 bytes and a name of 2,048, joined by ` && `.
+MEMORY = 131072
+LONGEST = 2046 * 39 + 2048 + 2046 * 4
+printings, trips = {}, {'read': 0, 'same': 0}
+
+
+def is_plain(rule):
+    """Whether a text can tell the rule's leaves: its names are words, none of them a sign or `readable`, and the days of its
+    durations have at most nine digits."""
+    for kind, argument, _ in in_order(rule):
+        if kind == NAMED and (not argument or any(byte not in WORD for byte in argument)):
+            return False
+        if kind == NAMED and argument.lower() in (b'and', b'or', b'readable'):
+            return False
+        if kind == OLDER and argument >= 10 ** 9 * DAY:
+            return False
+    return True
+
+
+def most_open(text):
+    """How many brackets of a text stand open at once, at the most."""
+    opened, most = 0, 0
+    for byte in text:
+        opened += (byte == 40) - (byte == 41)
+        most = max(most, opened)
+    return most
+
+
+def flat(rule):
+    """A rule as far as its text tells: an all or any of one child is that child, and one directly under its like is part of it."""
+    kind, argument, children = rule
+    below = []
+    for child in children:
+        child = flat(child)
+        below += child[2] if kind in (ALL, ANY) and child[0] == kind else [child]
+    return below[0] if kind in (ALL, ANY) and len(below) == 1 else [kind, argument, below]
+
+
+def round_trip(rule, text):
+    """Reads the text of a rule again, where it can be read. The rule that it reads as must be the one that was printed, as far as a
+    text tells; and it must print as the same text, where each all and any has two children or more, so that each bracket is needed."""
+    if len(text) > LENGTH or not is_plain(rule) or most_open(text) > DEPTH:
+        return
+    again = rule_in(text)
+    if flat(again) != flat(rule) or printed(again) != printed(flat(rule)):
+        sys.exit('%.200r prints as %.200r, which reads as %.200r' % (rule, text, again))
+    trips['read'] += 1
+    if all(len(children) > 1 for kind, _, children in in_order(rule) if kind in (ALL, ANY)):
+        if printed(again) != text:
+            sys.exit('%.200r prints as %.200r, and read again as %.200r' % (rule, text, printed(again)))
+        trips['same'] += 1
+
+
+def print_case(data, room):
+    """Adds a case of print where it is not there yet, and hands back its answer."""
+    answer = printing(data, room)
+    if ('print', data, room) not in seen:
+        seen.add(('print', data, room))
+        shown = answer[1].hex() or '-' if answer[0] == 'ok' else '%d %d' % answer[1:]
+        out.append('print %s %d %s %s' % (data.hex() or '-', room, answer[0], shown))
+        sort = 'ok' if answer[0] == 'ok' else 'no %d' % answer[1]
+        printings[sort] = printings.get(sort, 0) + 1
+    return answer
+
+
+def prints(rule, stated=None, tight=False, rooms=()):
+    """Cases of a rule, or of a text's rule: with a buffer of the length of what it prints as, with one byte less, and, unless `tight`,
+    with one byte more and with none at all; and the buffers given. Where a text is stated, it must print as that."""
+    if isinstance(rule, bytes):
+        rule = rule_in(rule)
+    data, text = image(rule), printed(rule)
+    size = len(text)
+    if stated not in (None, text):
+        sys.exit('%.200r prints as %.200r, and stated is %.200r' % (rule, text, stated))
+    for room in [size, size - 1] + ([] if tight else [size + 1, 0]) + list(rooms):
+        if room >= 0 and print_case(data, room) != (('ok', text) if room >= size else ('no', SHORT, 0)):
+            sys.exit('%.200r: printing its image into %d bytes differs from printing it' % (rule, room))
+    round_trip(rule, text)
+    return size
+
+
+def leaf(name):
+    return [NAMED, name, []]
+
+
+def older(span):
+    return [OLDER, span, []]
+
+
+def printed_sheet():
+    note('The proved sheet, and the rules that document 01 and the demands name')
+    for text, stated in ((b'a && (b && c)', b'a && b && c'), (b'(a && b) && c', b'a && b && c'), (b'a && b || c', b'a && b || c'),
+                         (b'older_than("1h 30m")', b'older_than(1h30m)'), (b"'READABLE'", b'readable(1)'),
+                         (b'nas || vault', b'nas || vault'), (b'at_least(0, nas)', b'at_least(0, nas)'),
+                         (b'at_least(2,nas,vault)', b'at_least(2, nas, vault)'), (b'nas and Readable', b'nas && readable(1)'),
+                         (b'OLDER_than(30d)&&readable(1)', b'older_than(30d) && readable(1)'),
+                         (b'at_least(2, older_than(30d), vault)', b'at_least(2, older_than(30d), vault)'),
+                         (b'vault && cellar', b'vault && cellar')):
+        prints(text, stated, rooms=(NEED, MEMORY))
+
+
+def printed_counts():
+    note('Counts')
+    for count_wanted, digits in ((0, b'0'), (1, b'1'), (9, b'9'), (10, b'10'), (99, b'99'), (100, b'100'), (255, b'255'),
+                                 (256, b'256'), (4294967295, b'4294967295'), (4294967296, b'4294967296'),
+                                 (9999999999999999999, b'9999999999999999999'), (10 ** 19, b'1' + b'0' * 19),
+                                 (MOST, b'18446744073709551615')):
+        prints([READABLE, count_wanted, []], b'readable(' + digits + b')')
+        prints([AT_LEAST, count_wanted, [leaf(b'a')]], b'at_least(' + digits + b', a)')
+        prints([AT_LEAST, count_wanted, [leaf(b'a'), leaf(b'b')]], b'at_least(' + digits + b', a, b)', tight=True)
+        prints([AT_LEAST, count_wanted, [leaf(b'a'), [READABLE, count_wanted, []], leaf(b'c')]],
+               b'at_least(' + digits + b', a, readable(' + digits + b'), c)', tight=True)
+    note('Counts of each length')
+    for size in range(1, 21):
+        prints([READABLE, 10 ** (size - 1), []], b'readable(1' + b'0' * (size - 1) + b')', tight=True)
+        if size < 20:
+            prints([READABLE, 10 ** size - 1, []], b'readable(' + b'9' * size + b')', tight=True)
+            prints([AT_LEAST, 1234567890123456789 // 10 ** (19 - size), [leaf(b'x')]],
+                   b'at_least(' + b'1234567890123456789'[:size] + b', x)', tight=True)
+
+
+def printed_durations():
+    note('Durations')
+    hour, minute = 3600000, 60000
+    for span, stated in ((0, b'0s'), (1, b'1ms'), (9, b'9ms'), (10, b'10ms'), (99, b'99ms'), (100, b'100ms'), (998, b'998ms'),
+                         (999, b'999ms'), (1000, b'1s'), (1001, b'1s1ms'), (1999, b'1s999ms'), (2000, b'2s'), (9999, b'9s999ms'),
+                         (10000, b'10s'), (59000, b'59s'), (59999, b'59s999ms'), (minute, b'1m'), (minute + 1, b'1m1ms'),
+                         (61000, b'1m1s'), (119999, b'1m59s999ms'), (10 * minute, b'10m'), (59 * minute, b'59m'),
+                         (hour - 1, b'59m59s999ms'), (hour, b'1h'), (hour + 1, b'1h1ms'), (hour + 1000, b'1h1s'),
+                         (hour + minute, b'1h1m'), (2 * hour - 1, b'1h59m59s999ms'), (10 * hour, b'10h'), (23 * hour, b'23h'),
+                         (DAY - 1, b'23h59m59s999ms'), (DAY, b'1d'), (DAY + 1, b'1d1ms'), (DAY + 1000, b'1d1s'),
+                         (DAY + minute, b'1d1m'), (DAY + hour, b'1d1h'), (2 * DAY - 1, b'1d23h59m59s999ms'), (2 * DAY, b'2d'),
+                         (DAY + 2 * hour + 3 * minute + 4005, b'1d2h3m4s5ms'), (30 * DAY, b'30d'),
+                         (999999999 * DAY, b'999999999d'), (999999999 * hour, b'41666666d15h'),
+                         (999999999 * minute, b'694444d10h39m'), (999999999 * 1000, b'11574d1h46m39s'),
+                         (999999999, b'11d13h46m39s999ms'), (10 ** 9 * DAY - 1, b'999999999d23h59m59s999ms'),
+                         (10 ** 9 * DAY, b'1000000000d'), (2 ** 32 - 1, b'49d17h2m47s295ms'), (2 ** 32, b'49d17h2m47s296ms'),
+                         (2 ** 63, b'106751991167d7h12m55s808ms'), (MOST - 51951615, b'213503982334d'),
+                         (MOST - 615, b'213503982334d14h25m51s'), (MOST - 1, b'213503982334d14h25m51s614ms'),
+                         (MOST, b'213503982334d14h25m51s615ms')):
+        prints(older(span), b'older_than(' + stated + b')')
+    note('Durations of a text: as many of a unit as the next one has, one less and one more')
+    for word, stated in ((b'23h', b'23h'), (b'24h', b'1d'), (b'25h', b'1d1h'), (b'47h', b'1d23h'), (b'48h', b'2d'),
+                         (b'59m', b'59m'), (b'60m', b'1h'), (b'61m', b'1h1m'), (b'1439m', b'23h59m'), (b'1440m', b'1d'),
+                         (b'59s', b'59s'), (b'60s', b'1m'), (b'61s', b'1m1s'), (b'3600s', b'1h'), (b'86399s', b'23h59m59s'),
+                         (b'999ms', b'999ms'), (b'1000ms', b'1s'), (b'1001ms', b'1s1ms'), (b'86400000ms', b'1d'),
+                         (b'23h60m', b'1d'), (b'23h59m60s', b'1d'), (b'23h59m59s1000ms', b'1d'), (b'23h59m59s999ms', b'23h59m59s999ms'),
+                         (b'000000001d', b'1d'), (b"' 1d\t2ms '", b'1d2ms'), (b'0d0h0m0s0ms', b'0s'), (b'0ms', b'0s'), (b'0d', b'0s'),
+                         (b'1d0h1m', b'1d1m'), (b'999999999d', b'999999999d'),
+                         (b'999999999d999999999h999999999m999999999s999999999ms', b'1042372695d17h12m18s999ms')):
+        prints(b'older_than(%s)' % word, b'older_than(%s)' % stated, tight=True)
+    note('Durations with each choice of parts')
+    for parts in ((7, 6, 5, 4, 3), (999999999, 23, 59, 59, 999)):
+        for mask in range(32):
+            chosen = [(many, unit, worth) for index, (many, (unit, worth)) in enumerate(zip(parts, UNITS)) if mask >> index & 1]
+            stated = b''.join(b'%d%s' % (many, unit) for many, unit, _ in chosen) or b'0s'
+            prints(older(sum(many * worth for many, _, worth in chosen)), b'older_than(%s)' % stated, tight=True)
+    note('Days of each length')
+    for size in range(12):
+        prints(older(10 ** size * DAY), b'older_than(1' + b'0' * size + b'd)', tight=True)
+        prints(older(10 ** size * DAY - 1), tight=True)
+
+
+def printed_names():
+    note('Names: bare, whatever their bytes')
+    for name in (b'', b'a', b'nas', b' ', b'  ', b'x y', b' x', b'x ', b'\t\n', b"'", b'"', b"''", b'"x"', b"it's", b'\'"', b'(', b')',
+                 b'()', b'a && b', b'&&', b'||', b',', b'and', b'OR', b'readable', b'readable(1)', b'any', b'at_least', b'0s', b'0',
+                 b'-', b'\x00', b'\x7f', b'\x00\x7f', bytes(range(128)), bytes(range(127, -1, -1))):
+        prints(leaf(name), name)
+        prints([ALL, 0, [leaf(name), leaf(b'z')]], name + b' && z', tight=True)
+        prints([ANY, 0, [leaf(b'z'), leaf(name)]], b'z || ' + name, tight=True)
+        prints([AT_LEAST, 1, [leaf(name)]], b'at_least(1, ' + name + b')', tight=True)
+    note('Several names, empty ones between them')
+    for names in ((b'', b''), (b'', b'', b''), (b'', b'a'), (b'a', b''), (b'a', b'', b'b'), (b'', b'ab', b'', b'', b'c', b''),
+                  (b'nas', b'nas'), (b'a', b'bc', b'def', b'ghij'), (b'ghij', b'def', b'bc', b'a'), (b'ab', b'c', b'', b'ab')):
+        for kind, sign in ((ALL, b' && '), (ANY, b' || ')):
+            prints([kind, 0, [leaf(name) for name in names]], sign.join(names))
+        prints([AT_LEAST, 7, [leaf(name) for name in names]], b'at_least(7, ' + b', '.join(names) + b')')
+        prints([ALL, 0, [[ANY, 0, [leaf(name)]] for name in names]], b' && '.join(b'(' + name + b')' for name in names))
+    note('Names of 255 bytes and more')
+    wide = filled(b'', b'long-name.', b'', 2048)
+    for size in (254, 255, 256, 257, 511, 512, 600, 2047, 2048):
+        prints(leaf(wide[:size]), wide[:size], tight=size > 300)
+    prints([ALL, 0, [leaf(wide[:300]), [ANY, 0, [leaf(wide[1:257]), leaf(b''), leaf(wide[2:257])]]]],
+           wide[:300] + b' && (' + wide[1:257] + b' ||  || ' + wide[2:257] + b')')
+
+
+def printed_shapes():
+    note('Combinators: of one child, in one another, with their brackets')
+    a, b, c, d = [leaf(name) for name in (b'a', b'b', b'c', b'd')]
+
+    def all_of(*children):
+        return [ALL, 0, list(children)]
+
+    def any_of(*children):
+        return [ANY, 0, list(children)]
+
+    def least(k, *children):
+        return [AT_LEAST, k, list(children)]
+
+    empty = leaf(b'')
+    for rule, stated in (
+            (all_of(a), b'a'), (any_of(a), b'a'), (least(1, a), b'at_least(1, a)'), (all_of(empty), b''), (any_of(empty), b''),
+            (least(1, empty), b'at_least(1, )'), (least(1, empty, empty), b'at_least(1, , )'), (all_of(any_of(empty)), b'()'),
+            (all_of(any_of(empty), empty), b'() && '), (all_of(any_of(empty, empty)), b'( || )'),
+            (all_of(older(1)), b'older_than(1ms)'), (any_of(older(0), [READABLE, 0, []]), b'older_than(0s) || readable(0)'),
+            (least(2, older(DAY), [READABLE, 3, []], a), b'at_least(2, older_than(1d), readable(3), a)'),
+            (all_of(a, b), b'a && b'), (any_of(a, b), b'a || b'), (all_of(a, b, c), b'a && b && c'), (any_of(a, b, c), b'a || b || c'),
+            (all_of(a, all_of(b, c)), b'a && b && c'), (all_of(all_of(a, b), c), b'a && b && c'),
+            (any_of(a, any_of(b, c)), b'a || b || c'), (any_of(any_of(a, b), c), b'a || b || c'),
+            (all_of(any_of(a, b), c), b'(a || b) && c'), (all_of(c, any_of(a, b)), b'c && (a || b)'),
+            (all_of(any_of(a, b), any_of(c, d)), b'(a || b) && (c || d)'), (all_of(a, any_of(b, c), d), b'a && (b || c) && d'),
+            (all_of(any_of(a, b)), b'(a || b)'), (all_of(any_of(a)), b'(a)'), (all_of(any_of(a), b), b'(a) && b'),
+            (all_of(a, any_of(b)), b'a && (b)'), (all_of(any_of(a), any_of(b)), b'(a) && (b)'),
+            (all_of(all_of(any_of(a))), b'(a)'), (any_of(all_of(any_of(a))), b'(a)'), (all_of(any_of(all_of(any_of(a)))), b'((a))'),
+            (all_of(any_of(any_of(a, b)), c), b'(a || b) && c'), (all_of(any_of(all_of(a, b)), c), b'(a && b) && c'),
+            (any_of(all_of(a, b), c), b'a && b || c'), (any_of(a, all_of(b, c)), b'a || b && c'),
+            (any_of(all_of(a, b), all_of(c, d)), b'a && b || c && d'), (any_of(all_of(a), b), b'a || b'),
+            (any_of(all_of(any_of(a, b), c), d), b'(a || b) && c || d'), (any_of(d, all_of(c, any_of(a, b))), b'd || c && (a || b)'),
+            (any_of(all_of(any_of(a, b)), c), b'(a || b) || c'), (all_of(all_of(any_of(a, b)), c), b'(a || b) && c'),
+            (all_of(any_of(all_of(any_of(a, b), c), d), a), b'((a || b) && c || d) && a'),
+            (least(1, any_of(a, b)), b'at_least(1, a || b)'), (least(2, any_of(a, b), c), b'at_least(2, a || b, c)'),
+            (least(2, c, any_of(a)), b'at_least(2, c, a)'), (least(1, all_of(a, b), any_of(c, d)), b'at_least(1, a && b, c || d)'),
+            (least(1, all_of(any_of(a, b))), b'at_least(1, (a || b))'), (least(1, least(2, a), b), b'at_least(1, at_least(2, a), b)'),
+            (all_of(least(1, a), b), b'at_least(1, a) && b'), (any_of(a, least(1, b)), b'a || at_least(1, b)'),
+            (all_of(least(1, any_of(a, b)), c), b'at_least(1, a || b) && c'),
+            (all_of(any_of(least(1, a)), c), b'(at_least(1, a)) && c'), (least(3, a, b, c), b'at_least(3, a, b, c)')):
+        prints(rule, stated)
+    note('Each three combinators in one another')
+    for outer in (AT_LEAST, ALL, ANY):
+        for middle in (AT_LEAST, ALL, ANY):
+            for inner in (AT_LEAST, ALL, ANY):
+                k = [level if kind == AT_LEAST else 0 for level, kind in ((1, outer), (20, middle), (300, inner))]
+                prints([outer, k[0], [[middle, k[1], [[inner, k[2], [a, b]], c]], d]], tight=True)
+                prints([outer, k[0], [d, [middle, k[1], [c, [inner, k[2], [a, b]]]]]], tight=True)
+                prints([outer, k[0], [d, [middle, k[1], [[inner, k[2], [a]]]], c]], tight=True)
+                prints([outer, k[0], [[middle, k[1], [[inner, k[2], [a]], [inner, k[2], [b, c]], d]]]], tight=True)
+    note('Nested 64 deep, and deeper than a text can be')
+    for deep in (2, 64, 65):
+        for kinds in ((ALL,), (ANY,), (AT_LEAST,), (ALL, ANY), (ALL, ANY, AT_LEAST), (ANY, AT_LEAST)):
+            rule = a
+            for level in range(deep):
+                kind = kinds[level % len(kinds)]
+                rule = [kind, level if kind == AT_LEAST else 0, [rule] if level % 5 else [rule, b]]
+            prints(rule, tight=deep > 2)
+    for text, stated in ((b'(' * 64 + b'a' + b')' * 64, b'a'), (b'all(any(' * 32 + b'a' + b'))' * 32, b'(' * 32 + b'a' + b')' * 32),
+                         (b'at_least(1,' * 64 + b'a' + b')' * 64, b'at_least(1, ' * 64 + b'a' + b')' * 64),
+                         (b'a && (b || ' * 64 + b'c' + b')' * 64, b'a && (b || ' * 64 + b'c' + b')' * 64)):
+        prints(text, stated)
+
+
+def printed_bounds():
+    note('Buffers: every length about a text, and the whole memory')
+    for text in (b'nas', b'older_than(30d) && readable(1)', b'at_least(2, (a || b) && c, vault)'):
+        prints(text, rooms=list(range(40)) + [255, 256, NEED - 1, NEED, 65536, LONGEST, MEMORY - 1, MEMORY])
+    note('Images with a bit of each byte turned')
+    data = of(b'at_least(2, all(nas, older_than(1d)), any(vault, readable))')
+    for mask in (1, 4, 128):
+        for at in range(len(data)):
+            turned = data[:at] + bytes([data[at] ^ mask]) + data[at + 1:]
+            if printing(turned, NEED)[0] == 'ok':
+                prints(rule_of(turned), tight=True)
+            else:
+                print_case(turned, NEED)
+                print_case(turned, 0)
+
+
+def printed_damages():
+    note('Images that break the layout, those of decide among them: 16 before 1')
+    found = [line.split()[1] for line in out if line.startswith('decide ') and line.endswith(' no 16 0')]
+    for data in [bytes.fromhex(word if word != '-' else '') for word in found] + list(damaged()):
+        # The largest stand in one case only, since they make long lines.
+        for room in (0, NEED) if len(data) < 10000 else (0,):
+            if print_case(data, room) != ('no', BAD_IMAGE, 0):
+                sys.exit('%.60r is an image' % data)
+
+
+def printed_large():
+    note('Images of 2,048 nodes, nested and flat, and the longest text')
+
+    def nested(rule, deep, *kinds):
+        for level in range(deep):
+            kind = kinds[level % len(kinds)]
+            rule = [kind, 10 + level % 90 if kind == AT_LEAST else 0, [rule]]
+        return rule
+
+    prints(nested([READABLE, 1, []], 2047, ALL), b'readable(1)', tight=True)
+    prints(nested(leaf(b'a'), 2047, ANY, ALL), b'(' * 1023 + b'a' + b')' * 1023, tight=True)
+    if prints(nested(leaf(b''), 2047, AT_LEAST), tight=True) != 14 * 2047:
+        sys.exit('a text of nested at_least has another length than it should')
+    name = filled(b'', b'nas, vault; ', b'', 2048)
+    prints([ANY, 0, [leaf(name[index:index + 1]) for index in range(2047)]],
+           b' || '.join(name[index:index + 1] for index in range(2047)), tight=True)
+    longest = [ALL, 0, [older(MOST)] * 2046 + [leaf(name)]]
+    if prints(longest, b'older_than(213503982334d14h25m51s615ms) && ' * 2046 + name, tight=True) != LONGEST:
+        sys.exit('the longest text has another length than it should')
+    note('A text one byte longer than a buffer for reading has to be')
+    if prints([ALL, 0, [older(MOST)] * 619 + [leaf(name[:12])]], rooms=(NEED,)) != NEED + 1:
+        sys.exit('a text is not as long as it should be')
+
+
+PLAIN = [b'a', b'b', b'nas', b'vault', b'b-1', b'2', b'30d', b'any', b'at_least', b'Older_Than', b'a.and.b']
+
+
+def drawn_printings():
+    note('Drawn: rules')
+    draw = Draw(20260804)
+    for way in range(120):
+        prints(drawn_rule(draw, 1 + draw.below(4)), tight=way % 4 > 0)
+    note('Drawn: rules whose names are words')
+    for way in range(80):
+        prints(drawn_verdict(draw, 1 + draw.below(4), PLAIN), tight=way % 4 > 0)
+    note('Drawn: rules of texts')
+    for way in range(60):
+        prints(spaced(draw, drawn(draw, 3)), tight=way % 4 > 0)
+    note('Drawn: images with a byte or two put in place of others, left out or put in')
+    for _ in range(60):
+        data = image(drawn_rule(draw, 2))
+        for _ in range(1 + draw.below(2)):
+            at = draw.below(len(data))
+            put_in = bytes([draw.of([0, 1, 2, 3, 4, 5, 6, 127, 128, 255])]) if draw.below(4) else b''
+            data = data[:at] + put_in + data[at + draw.below(2):]
+        print_case(data, NEED)
+        print_case(data, draw.below(40))
+
+
+def all_printings():
+    """Each answer must have its cases, and enough texts must have been read again."""
+    if sorted(printings) != ['no 1', 'no 16', 'ok'] or min(printings.values()) < 500:
+        sys.exit('missed or too few: %r' % printings)
+    if trips['read'] < 400 or trips['same'] < 300:
+        sys.exit('too few texts were read again: %r' % trips)
+
+
 
 def main():
     note('read TEXT BUFFER no NUMBER PLACE, or read TEXT BUFFER ok IMAGE; the text and the image in hex')
@@ -2147,6 +2528,10 @@ def main():
     note('check IMAGE STORES pass, or no NUMBER PLACE; judge TEXT STORES pass, or no NUMBER PLACE; all in hex')
     for part in (verdict_sheet, archive_cases, mode_cases, stage_cases, storeless_cases, store_name_cases, full_tables,
                  turned_cases, large_rules, drawn_verdicts, all_verdicts):
+        part()
+    note('print IMAGE BUFFER no NUMBER PLACE, or print IMAGE BUFFER ok TEXT; the image and the text in hex')
+    for part in (printed_sheet, printed_counts, printed_durations, printed_names, printed_shapes, printed_bounds,
+                 printed_damages, printed_large, drawn_printings, all_printings):
         part()
     sys.stdout.write('\n'.join(out) + '\n')
     sys.stderr.write('%d cases\n' % len(seen))

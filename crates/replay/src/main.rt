@@ -1,10 +1,12 @@
 // Runs a list of cases from standard input, one on a line, and prints how many there are and how many differ.
 // Lines that are empty or begin with `#` are passed over. A case is the name of a call, what it is given and what it
-// must answer: `run_case` has the call `read`, and `run_call` the calls `decide`, `check` and `judge`.
+// must answer: `run_given` has the calls `read` and `print`, and `run_call` the calls `decide`, `check` and `judge`.
 mod checking;
 mod deciding;
 mod fields;
+mod lent;
 mod outcome;
+mod printing;
 mod reading;
 
 use crate::fields::Found;
@@ -61,16 +63,26 @@ fn with_stores(line: &[u8], given: &[u8]) -> Outcome {
     run_call(line, given, front(&stores, size))
 }
 
-// Runs the case on a line. Every call but `read` is given an image or a text, and then a table of stores.
-fn run_case(line: &[u8]) -> Outcome {
-    if ascii::eq(field(line, 0), b"read") {
-        return reading::run(line);
+// Runs the case on a line, an image or a text being there. Every call but `read` and `print`, which are lent memory, is given a
+// table of stores too.
+fn run_given(line: &[u8], given: &[u8]) -> Outcome {
+    let word = field(line, 0);
+    if ascii::eq(word, b"read") {
+        return reading::run(line, given);
     }
+    if ascii::eq(word, b"print") {
+        return printing::run(line, given);
+    }
+    with_stores(line, given)
+}
+
+// Runs the case on a line. Every call is given an image or a text.
+fn run_case(line: &[u8]) -> Outcome {
     let mut given = [0u8; 32768];
     let Found::Number(size) = bytes(field(line, 1), &mut given) else {
         return Outcome::Unreadable;
     };
-    with_stores(line, front(&given, size))
+    run_given(line, front(&given, size))
 }
 
 // Counts a case in, and shows it where it differs and not too many were shown.
@@ -190,8 +202,9 @@ fn take_all(line: &mut [u8]) -> Tally {
     progress.tally
 }
 
+// The longest line that a case can need has an image and its text in hex, 233,325 bytes.
 fn main() {
-    let mut line = io::large_buffer();
+    let mut line = [0u8; 262144];
     let tally = take_all(&mut line);
     io::print_decimal(STDOUT_FILENO, tally.cases);
     io::write_all(STDOUT_FILENO, b" cases, ");

@@ -1,9 +1,9 @@
--- `replay::reading::first_difference` is safe and ends: what is left of the first memory falls.
+-- `replay::lent::first_difference` is safe and ends: what is left of the first memory falls.
 use lib.ListN.{length}
 use Prim.Native.Nat.{_-_}
 use borrow.Author.Needs.{needs}
-use Rattle.replay.proofs.reading.first_difference.Statement.{statement}
-use Rattle.replay.proofs.reading.first_difference.Tie as tie
+use Rattle.replay.proofs.lent.first_difference.Statement.{statement}
+use Rattle.replay.proofs.lent.first_difference.Tie as tie
 
 abbrev Inv-loop : tie.InvT-loop
 Inv-loop a b i₀ i = Unit {0}

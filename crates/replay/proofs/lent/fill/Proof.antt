@@ -1,10 +1,10 @@
--- `replay::reading::fill` is safe and ends: the memory keeps its length, and what is left of it falls.
+-- `replay::lent::fill` is safe and ends: the memory keeps its length, and what is left of it falls.
 use lib.ListN.{length}
 use Prim.Native.Nat.{_-_}
 use mathlib.Core.Path.{_≡_}
 use borrow.Author.Needs.{needs}
-use Rattle.replay.proofs.reading.fill.Statement.{statement}
-use Rattle.replay.proofs.reading.fill.Tie as tie
+use Rattle.replay.proofs.lent.fill.Statement.{statement}
+use Rattle.replay.proofs.lent.fill.Tie as tie
 
 abbrev Inv-loop : tie.InvT-loop
 Inv-loop memory₀ i₀ memory i = length memory ≡ length memory₀
