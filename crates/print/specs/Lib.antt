@@ -1,4 +1,5 @@
 pub mod Print
+pub mod PrintLaws
 pub mod Pieces
 pub mod Printed
 pub mod PiecesLaws

@@ -1,12 +1,12 @@
 -- What printing answers, by what each test found, and what stands in the buffer then. Assumes nothing.
-use mathlib.Core.Path.{_≡_, sym, ap, _∙_}
+use mathlib.Core.Path.{_≡_, _∙_}
 use mathlib.Core.Bool.{true, false}
 use mathlib.Core.List.{List, _++_}
-use Prim.Native.Nat.{ℕ, _+_, _≤_, _<_}
+use Prim.Native.Nat.{ℕ, _≤_, _<_}
 use native.Mathlib.Omega.{arith}
 use borrow.Author.Tests.{lt-ltb, le-ltb}
 use lib.ListN.{length, drop}
-use Rattle.ascii.specs.Written.{written, Put}
+use Rattle.ascii.specs.Written.{Put}
 use Rattle.ascii.specs.WrittenLaws.{written-front}
 use Rattle.refusals.specs.Refusals.{refusal, shortBuffer, badImage}
 use Rattle.image.specs.Rule.{Rule, size}
