@@ -1,0 +1,77 @@
+// The C interface: five calls on bytes and numbers, each answered by one number.
+ghost use mathlib.Core.Path.{_≡_};
+ghost use Rattle.expressions.specs.Outcome.{readInto};
+ghost use Rattle.decide.specs.Decide.{decideOf};
+ghost use Rattle.safety.specs.Check.{checkOf, judgeOf};
+ghost use Rattle.print.specs.Printed.{printInto};
+ghost use Rattle.prune.specs.Answers.{packed, ofReading, ofDecision, ofVerdict, ofPrinting};
+use decide::Decision;
+use expressions::Reading;
+use print::Printing;
+use safety::Verdict;
+
+// An answer: a refusal's number, or 0, times 2^32, and a value below 2^32.
+fn answer(number: u8, value: usize) -> u64
+    ensures { λ r. ⌜ r ≡ packed number value ⌝ }
+{
+    number as u64 * 4_294_967_296 + (value % 4_294_967_296) as u64
+}
+
+fn of_verdict(verdict: Verdict) -> u64
+    ensures { λ r. ⌜ r ≡ ofVerdict verdict ⌝ }
+{
+    match verdict {
+        Verdict::Pass => 0,
+        Verdict::Refused(f) => answer(f.number, f.place),
+    }
+}
+
+// Reads a text into a rule image; the value is the image's length.
+#[no_mangle]
+pub extern "C" fn prune_read(text: &[u8], image: &mut [u8]) -> u64
+    ensures { λ r. ⌜ (r ≡ ofReading (readInto (now (text .entry)) (now (image .entry)) .answer)) × (now (image .exit) ≡ readInto (now (text .entry)) (now (image .entry)) .image) ⌝ }
+{
+    match expressions::read(text, image) {
+        Reading::Read(size) => answer(0, size),
+        Reading::Refused(f) => answer(f.number, f.place),
+    }
+}
+
+// Decides on an image; the value is 1 for evict, 0 for keep.
+#[no_mangle]
+pub extern "C" fn prune_decide(image: &[u8], stores: &[u8], age: u64, list: &[u8]) -> u64
+    ensures { λ r. ⌜ r ≡ ofDecision (decideOf (now (image .entry)) (now (stores .entry)) age (now (list .entry))) ⌝ }
+{
+    match decide::decide(image, stores, age, list) {
+        Decision::Evict => 1,
+        Decision::Keep => 0,
+        Decision::Refused(f) => answer(f.number, f.place),
+    }
+}
+
+// Checks the rule of an image; the value is 0 for a pass.
+#[no_mangle]
+pub extern "C" fn prune_check(image: &[u8], stores: &[u8]) -> u64
+    ensures { λ r. ⌜ r ≡ ofVerdict (checkOf (now (image .entry)) (now (stores .entry))) ⌝ }
+{
+    of_verdict(safety::validate_safety(image, stores))
+}
+
+// Judges a text; the value is 0 for a pass.
+#[no_mangle]
+pub extern "C" fn prune_judge(text: &[u8], stores: &[u8]) -> u64
+    ensures { λ r. ⌜ r ≡ ofVerdict (judgeOf (now (text .entry)) (now (stores .entry))) ⌝ }
+{
+    of_verdict(safety::judge(text, stores))
+}
+
+// Prints the rule of an image; the value is the text's length.
+#[no_mangle]
+pub extern "C" fn prune_print(image: &[u8], text: &mut [u8]) -> u64
+    ensures { λ r. ⌜ (r ≡ ofPrinting (printInto (now (image .entry)) (now (text .entry)) .answer)) × (now (text .exit) ≡ printInto (now (image .entry)) (now (text .entry)) .text) ⌝ }
+{
+    match print::print(image, text) {
+        Printing::Printed(size) => answer(0, size),
+        Printing::Refused(f) => answer(f.number, f.place),
+    }
+}
