@@ -1,5 +1,5 @@
--- What `build` makes of the first nodes stands in them. Assumes nothing.
-use mathlib.Core.Path.{_≡_, refl, ap}
+-- What `build` makes of the first nodes stands in them, and no other rule stands in the same cells. Assumes nothing.
+use mathlib.Core.Path.{_≡_, refl, sym, ap, _∙_}
 use mathlib.Core.Option.{some, Option·none-ne-some}
 use Prim.Native.Nat.{ℕ, zero, suc, _+_, _-_}
 use native.Mathlib.Omega.{arith}
@@ -20,6 +20,40 @@ root-size (leaf l) f s st =
 root-size (node j rs r) f s st =
     let e : s + suc (sizes rs + size r) - 1 ≡ s + sizes rs + size r = omega arith in
     rw e (st .3)
+
+-- rules that end at one cell are of one size, for that cell says it
+same-last : (r q : Rule) (f : ℕ → Cell) (s m k : ℕ) → Stands r f (s + m) → Stands q f (s + k) → m + size r ≡ k + size q → (size r ≡ size q) × (m ≡ k)
+same-last r q f s m k x y e =
+    let a : s + m + size r - 1 ≡ s + k + size q - 1 = omega arith in
+    let b : size r ≡ size q = sym (rw a at (root-size r f (s + m) x)) ∙ root-size q f (s + k) y in
+    (b, omega arith)
+
+-- two rules of one size that stand in the same cells are the same
+mutual
+  unfolding size Stands
+
+  pub one-rule : (p q : Rule) (f : ℕ → Cell) (s : ℕ) → size p ≡ size q → Stands p f s → Stands q f s → p ≡ q
+  one-rule (leaf l) (leaf m) f s e x y = cc
+  one-rule (leaf l) (node i qs q) f s e x y = absurd (omega (arith, size-pos q))
+  one-rule (node j rs r) (leaf m) f s e x y = absurd (omega (arith, size-pos r))
+  one-rule (node j rs r) (node i qs q) f s e x y =
+      let (a, b) = same-last r q f s (sizes rs) (sizes qs) (x .1) (y .1) (omega arith) in
+      let c = one-rules rs qs f s b (x .0) (y .0) in
+      let d = one-rule r q f (s + sizes qs) a (rw b at (x .1)) (y .1) in
+      let g : s + sizes rs + size r ≡ s + sizes qs + size q = omega arith in
+      let w = rw g at (x .2) in
+      let v = y .2 in
+      cc
+
+  one-rules : (ps qs : Rules) (f : ℕ → Cell) (s : ℕ) → sizes ps ≡ sizes qs → StandAll ps f s → StandAll qs f s → ps ≡ qs
+  one-rules nil nil f s e x y = refl
+  one-rules nil (more qs q) f s e x y = absurd (omega (arith, size-pos q))
+  one-rules (more ps p) nil f s e x y = absurd (omega (arith, size-pos p))
+  one-rules (more rs r) (more qs q) f s e x y =
+      let (a, b) = same-last r q f s (sizes rs) (sizes qs) (x .1) (y .1) e in
+      let c = one-rules rs qs f s b (x .0) (y .0) in
+      let d = one-rule r q f (s + sizes qs) a (rw b at (x .1)) (y .1) in
+      cc
 
 -- of rules that stand behind one another: those before, and those behind
 stand-chain : (f : ℕ → Cell) (s : ℕ) (ps rs : Rules) → StandAll (chain ps rs) f s → StandAll ps f s × StandAll rs f (s + sizes ps)

@@ -112,21 +112,18 @@ pub fn put_rule(
     let root = node_at(image, n, at);
     let kind = root.kind;
     let arg = root.arg;
-    match kind {
-        0..=2 => put_leaf(image, n, kind, arg, text, end),
-        3..=5 => {
-            let mut stop = at;
-            let mut to = end;
-            while from < stop {
-                let child = node_at(image, n, stop - 1);
-                let back = child.size;
-                to = put_back(kind, child.kind, stop == at, text, to);
-                stop -= back;
-                to = put_rule(image, n, stop, back, text, to);
-                to = put_front(kind, child.kind, text, to);
-            }
-            put_opening(kind, arg, text, to)
-        }
-        _ => end,
+    if kind < 3 {
+        return put_leaf(image, n, kind, arg, text, end);
     }
+    let mut stop = at;
+    let mut to = end;
+    while from < stop {
+        let child = node_at(image, n, stop - 1);
+        let back = child.size;
+        to = put_back(kind, child.kind, stop == at, text, to);
+        stop -= back;
+        to = put_rule(image, n, stop, back, text, to);
+        to = put_front(kind, child.kind, text, to);
+    }
+    put_opening(kind, arg, text, to)
 }

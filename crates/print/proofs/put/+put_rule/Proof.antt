@@ -1,14 +1,20 @@
 -- `print::put::put_rule` meets its contract: the walk over the children keeps what is put, and each child has fewer nodes than its
 -- parent. Assumes nothing.
-use Prim.Native.Nat.{ℕ, _+_, _≤_, _<_}
+use mathlib.Core.Path.{ap}
+use Prim.Native.Nat.{ℕ, _+_, _-_, _≤_, _<_}
 use native.Mathlib.Omega.{arith}
+use lib.ListN.{length, length-append}
 use borrow.Author.Needs.{needs}
 use borrow.Fn.Kinds.{In}
 use borrow.Fn.PlainCycle.{Measures, is, falls, and}
+use Rattle.image.specs.Valid.{nodeOf}
 use Rattle.image.specs.EncodeLaws.{size-pos}
 use Rattle.decide.specs.ReadingLaws.{name-inside}
-use Rattle.ascii.specs.WrittenLaws.{put-none}
-use Rattle.print.specs.PutLaws.{no-leaf-text, leaf-text, Walk, Turn, walk-start, text-length, before-end, opening-room, walk-turn, walk-done, turn-room, child-room, walk-next}
+use Rattle.ascii.specs.Written.{Put}
+use Rattle.ascii.specs.WrittenLaws.{put-none, put-before, put-length}
+use Rattle.print.specs.Print.{textOf}
+use Rattle.print.specs.ChildrenLaws.{Walks, walks-start, Turn, turn, walks-next, walks-done, leaf-text}
+use Rattle.print.specs.PutLaws.{pieces-room, child-room, put-start}
 use Rattle.print.proofs.put.put_rule.Reads as put-rule
 use Rattle.print.proofs.put.put_rule.Kinds as put-rule-kinds
 use Rattle.print.proofs.put.+put_rule.Lts-put_rule as put-rule-lts
@@ -35,16 +41,20 @@ abbrev given : ℕ → put-rule-lts.Claims
 given t = (node-at-reads.Asked, node-at-reads.Learnt, put-leaf-reads.Asked, put-leaf-reads.Learnt, put-back-reads.Asked, put-back-reads.Learnt, put-rule-below t, put-rule.Post, put-front-reads.Asked, put-front-reads.Learnt, put-opening-reads.Asked, put-opening-reads.Learnt)
 
 abbrev put-rule-Inv-loop : put-rule-lts.InvT-loop
-put-rule-Inv-loop image n from size text₀ end at kind arg stop₀ to₀ text stop to = Walk image n text₀ text from size kind arg end stop to
+put-rule-Inv-loop image n from size text₀ end at kind arg stop₀ to₀ text stop to =
+    (stop ≤ from + size - 1) × Walks image n kind arg from size stop (λ t. Put text₀ text to end t)
 
 abbrev put-rule-μ-loop : put-rule-lts.MeasureT-loop
 put-rule-μ-loop image n from size text₀ end at kind arg stop₀ to₀ text stop to = stop
 
--- at entry there is a node, and the last one is within the image
+-- at entry there is a node, the last one is within the image, and the rule's text has room
 the-node : (t : ℕ) (c : put-rule-lts.Start (given t) (put-rule-at t) put-rule.Post put-rule-Inv-loop put-rule-μ-loop) → (0 < c .args .size) × (c .args .from + c .args .size ≤ c .args .n)
 the-node t c =
     let h = c .pre .1 .0 in
     (omega (arith, size-pos (h .here .rule), h .here .sized), h .within)
+
+the-fit : (t : ℕ) (c : put-rule-lts.Start (given t) (put-rule-at t) put-rule.Post put-rule-Inv-loop put-rule-μ-loop) → length (textOf (c .pre .1 .0 .here .rule)) ≤ c .args .end
+the-fit t c = let h = c .pre .1 .0 .here in c .pre .1 .1 (h .rule) (h .sized) (h .stands)
 
 put-rule-add-at : (t : ℕ) → put-rule-lts.Need-add-at (given t) (put-rule-at t) put-rule.Post put-rule-Inv-loop put-rule-μ-loop
 put-rule-add-at t c = omega arith
@@ -59,90 +69,102 @@ put-rule-put-leaf-requires : (t : ℕ) → put-rule-lts.Need-put-leaf-requires (
 put-rule-put-leaf-requires t c κs =
     let s = c .before .before .before .before .before in
     let d = c .before .before .node-at .ensures in
-    let i = s .pre .1 .0 in
-    let h = i .here in (
-      name-inside _ _ _ d (i .names) (omega (arith, the-node t s)),
-      rw (leaf-text _ _ _ _ d (λ i j. omega arith) (h .rule) (h .sized) (h .stands)) (s .pre .1 .1 (h .rule) (h .sized) (h .stands)),
+    let h = s .pre .1 .0 .here in (
+      name-inside _ _ _ d (s .pre .1 .0 .names) (omega (arith, the-node t s)),
+      rw (leaf-text _ _ _ _ d (c .before .if1 .taken) (h .rule) (h .sized) (h .stands)) (the-fit t s),
       s .pre .1 .2,
     )
-
-put-rule-loop-holds : (t : ℕ) → put-rule-lts.Need-loop-holds (given t) (put-rule-at t) put-rule.Post put-rule-Inv-loop put-rule-μ-loop
-put-rule-loop-holds t c =
-    let s = c .before .before .before .before .before in
-    walk-start _ _ _ _ (c .before .before .node-at .ensures) (c .before .if1 .left) (s .pre .1 .0 .here) (s .pre .1 .1) (s .pre .1 .2)
-
-put-rule-sub-node-at : (t : ℕ) → put-rule-lts.Need-sub-node-at (given t) (put-rule-at t) put-rule.Post put-rule-Inv-loop put-rule-μ-loop
-put-rule-sub-node-at t c = omega arith
-
-put-rule-node-at-requires-2 : (t : ℕ) → put-rule-lts.Need-node-at-requires-2 (given t) (put-rule-at t) put-rule.Post put-rule-Inv-loop put-rule-μ-loop
-put-rule-node-at-requires-2 t c κs =
-    let s = c .before .before .before .before .before .before .before in
-    (s .pre .1 .0 .long, omega (arith, c .before .loop .inv .back, the-node t s))
-
--- the child that a turn puts
-the-turn : (t : ℕ) (c : put-rule-lts.After-node-at2 (given t) (put-rule-at t) put-rule.Post put-rule-Inv-loop put-rule-μ-loop) →
-    Turn (c .before .before .loop .inv) (c .node-at2 .result .kind) (c .node-at2 .result .size)
-the-turn t c = walk-turn (c .before .before .loop .inv) (c .node-at2 .ensures) (c .before .loop-test .taken)
-
-put-rule-put-back-requires : (t : ℕ) → put-rule-lts.Need-put-back-requires (given t) (put-rule-at t) put-rule.Post put-rule-Inv-loop put-rule-μ-loop
-put-rule-put-back-requires t c κs =
-    let w = c .before .before .before .loop .inv in
-    (omega (arith, turn-room w (the-turn t (c .before))), before-end w)
-
-put-rule-sub-stop : (t : ℕ) → put-rule-lts.Need-sub-stop (given t) (put-rule-at t) put-rule.Post put-rule-Inv-loop put-rule-μ-loop
-put-rule-sub-stop t c = omega (arith, the-turn t (c .before .before .before .before) .ends)
-
-put-rule-put-rule-requires : (t : ℕ) → put-rule-lts.Need-put-rule-requires (given t) (put-rule-at t) put-rule.Post put-rule-Inv-loop put-rule-μ-loop
-put-rule-put-rule-requires t c κs =
-    let s = c .before .before .before .before .before .before .before .before .before .before .before .before .before in
-    let i = s .pre .1 .0 in
-    let w = c .before .before .before .before .before .before .before .loop .inv in
-    let u = the-turn t (c .before .before .before .before .before) in
-    let p = c .before .before .before .put-back .ensures .ends in (
-      omega (arith, u .ends, w .back, s .pre .0),
-      (
-        record { long = i .long; names = i .names; within = omega (arith, u .ends, w .back, the-node t s); here = record { rule = u .child; sized = u .sized; stands = u .stands } },
-        child-room w u p,
-        omega (arith, before-end w),
-      ),
-    )
-
-put-rule-put-front-requires : (t : ℕ) → put-rule-lts.Need-put-front-requires (given t) (put-rule-at t) put-rule.Post put-rule-Inv-loop put-rule-μ-loop
-put-rule-put-front-requires t c κs =
-    let w = c .before .before .before .before .before .before .before .before .before .before .before .loop .inv in
-    let u = the-turn t (c .before .before .before .before .before .before .before .before .before) in
-    let p = c .before .before .before .before .before .before .before .put-back .ensures .ends in
-    let q = c .before .before .before .put-rule .ensures (u .child) (u .sized) (u .stands) .ends in
-    (omega (arith, turn-room w u), omega (arith, before-end w))
-
-put-rule-loop-less : (t : ℕ) → put-rule-lts.Need-loop-less (given t) (put-rule-at t) put-rule.Post put-rule-Inv-loop put-rule-μ-loop
-put-rule-loop-less t c = omega (arith, the-turn t (c .before .before .before .before .before .before .before .before .before .before .before .before))
-
-put-rule-loop-again : (t : ℕ) → put-rule-lts.Need-loop-again (given t) (put-rule-at t) put-rule.Post put-rule-Inv-loop put-rule-μ-loop
-put-rule-loop-again t c = walk-next (c .before .before .before .before .before .before .before .before .before .before .before .before .before .before .loop .inv) (the-turn t (c .before .before .before .before .before .before .before .before .before .before .before .before)) (c .before .before .before .before .before .before .before .before .before .before .put-back .ensures) (c .before .before .before .before .before .before .put-rule .ensures) (c .before .before .put-front .ensures)
-
-put-rule-put-opening-requires : (t : ℕ) → put-rule-lts.Need-put-opening-requires (given t) (put-rule-at t) put-rule.Post put-rule-Inv-loop put-rule-μ-loop
-put-rule-put-opening-requires t c κs =
-    let w = c .before .before .loop .inv in
-    (opening-room w, before-end w)
 
 put-rule-same-length : (t : ℕ) → put-rule-lts.Need-same-length (given t) (put-rule-at t) put-rule.Post put-rule-Inv-loop put-rule-μ-loop
 put-rule-same-length t c = search needs
 
 put-rule-returns : (t : ℕ) → put-rule-lts.Need-returns (given t) (put-rule-at t) put-rule.Post put-rule-Inv-loop put-rule-μ-loop
 put-rule-returns t c = λ ρ e st.
-    rw (← leaf-text _ _ _ _ (c .before .before .before .before .before .node-at .ensures) (λ i j. omega arith) ρ e st) (c .before .before .put-leaf .ensures)
+    rw (← leaf-text _ _ _ _ (c .before .before .before .before .before .node-at .ensures) (c .before .before .before .before .if1 .taken) ρ e st) (c .before .before .put-leaf .ensures)
+
+put-rule-loop-holds : (t : ℕ) → put-rule-lts.Need-loop-holds (given t) (put-rule-at t) put-rule.Post put-rule-Inv-loop put-rule-μ-loop
+put-rule-loop-holds t c = (omega arith, walks-start _ _ _ _ (c .before .node-at .ensures) (c .if1 .left) (put-none _ _))
+
+put-rule-sub-node-at : (t : ℕ) → put-rule-lts.Need-sub-node-at (given t) (put-rule-at t) put-rule.Post put-rule-Inv-loop put-rule-μ-loop
+put-rule-sub-node-at t c = omega arith
+
+put-rule-node-at-requires-2 : (t : ℕ) → put-rule-lts.Need-node-at-requires-2 (given t) (put-rule-at t) put-rule.Post put-rule-Inv-loop put-rule-μ-loop
+put-rule-node-at-requires-2 t c κs =
+    let s = c .before .before .before .before .before .before in
+    (s .pre .1 .0 .long, omega (arith, c .before .loop .inv .0, the-node t s))
+
+-- the child that a turn puts
+the-turn : (t : ℕ) (c : put-rule-lts.After-node-at2 (given t) (put-rule-at t) put-rule.Post put-rule-Inv-loop put-rule-μ-loop) →
+    let s = c .before .before .before .before .before .before .before in
+    let d = c .before .before .before .before .node-at .result in
+    let i = c .before .before .loop in
+    Turn (s .args .image .now) (s .args .n) (d .kind) (d .arg) (s .args .from) (s .args .size) (i .stop) (λ t. Put (s .args .text .now) (i .text) (i .to) (s .args .end) t) (s .pre .1 .0 .here .rule) (nodeOf (c .node-at2 .result))
+the-turn t c =
+    let h = c .before .before .before .before .before .before .before .pre .1 .0 .here in
+    let i = c .before .before .loop .inv in
+    turn _ _ _ _ _ (i .1) (i .0) (c .before .loop-test .taken) (c .node-at2 .ensures) (h .rule) (h .sized) (h .stands)
+
+put-rule-put-back-requires : (t : ℕ) → put-rule-lts.Need-put-back-requires (given t) (put-rule-at t) put-rule.Post put-rule-Inv-loop put-rule-μ-loop
+put-rule-put-back-requires t c κs =
+    let s = c .before .before .before .before .before .before .before .before in
+    let u = the-turn t (c .before) in
+    (omega (arith, pieces-room (the-fit t s) u), put-start (s .pre .1 .2) (u .holds))
+
+put-rule-sub-stop : (t : ℕ) → put-rule-lts.Need-sub-stop (given t) (put-rule-at t) put-rule.Post put-rule-Inv-loop put-rule-μ-loop
+put-rule-sub-stop t c = omega (arith, the-turn t (c .before .before .before .before) .fits)
+
+put-rule-put-rule-requires : (t : ℕ) → put-rule-lts.Need-put-rule-requires (given t) (put-rule-at t) put-rule.Post put-rule-Inv-loop put-rule-μ-loop
+put-rule-put-rule-requires t c κs =
+    let s = c .before .before .before .before .before .before .before .before .before .before .before .before in
+    let i = s .pre .1 .0 in
+    let u = the-turn t (c .before .before .before .before .before) in
+    let pos = u .some in
+    let fits = u .fits in
+    let le = c .before .before .before .before .before .before .before .loop .inv .0 in
+    let p = c .before .before .before .put-back .ensures .ends in (
+      omega (arith, s .pre .0),
+      (
+        record { long = i .long; names = i .names; within = omega (arith, the-node t s); here = record { rule = u .child; sized = u .sized; stands = u .stands } },
+        child-room (the-fit t s) u p,
+        omega (arith, put-start (s .pre .1 .2) (u .holds)),
+      ),
+    )
+
+put-rule-put-front-requires : (t : ℕ) → put-rule-lts.Need-put-front-requires (given t) (put-rule-at t) put-rule.Post put-rule-Inv-loop put-rule-μ-loop
+put-rule-put-front-requires t c κs =
+    let s = c .before .before .before .before .before .before .before .before .before .before .before .before .before .before .before .before in
+    let u = the-turn t (c .before .before .before .before .before .before .before .before .before) in
+    let p = c .before .before .before .before .before .before .before .put-back .ensures .ends in
+    let q = c .before .before .before .put-rule .ensures (u .child) (u .sized) (u .stands) .ends in
+    (omega (arith, pieces-room (the-fit t s) u), omega (arith, put-start (s .pre .1 .2) (u .holds)))
+
+put-rule-loop-less : (t : ℕ) → put-rule-lts.Need-loop-less (given t) (put-rule-at t) put-rule.Post put-rule-Inv-loop put-rule-μ-loop
+put-rule-loop-less t c = omega (arith, the-turn t (c .before .before .before .before .before .before .before .before .before .before .before .before) .some, the-turn t (c .before .before .before .before .before .before .before .before .before .before .before .before) .fits)
+
+put-rule-loop-again : (t : ℕ) → put-rule-lts.Need-loop-again (given t) (put-rule-at t) put-rule.Post put-rule-Inv-loop put-rule-μ-loop
+put-rule-loop-again t c =
+    let long = c .before .before .before .before .before .before .before .before .before .before .before .before .before .before .before .before .before .before .before .pre .1 .2 in
+    let i = c .before .before .before .before .before .before .before .before .before .before .before .before .before .before .loop .inv in
+    (omega (arith, i .0), walks-next _ _ _ _ _ (i .1) (i .0) (c .before .before .before .before .before .before .before .before .before .before .before .before .before .loop-test .taken) (c .before .before .before .before .before .before .before .before .before .before .before .before .node-at2 .ensures) (λ q v e st h. put-before long (put-before long (put-before long h (c .before .before .before .before .before .before .before .before .before .before .put-back .ensures)) (c .before .before .before .before .before .before .put-rule .ensures q e st)) (c .before .before .put-front .ensures)))
+
+put-rule-put-opening-requires : (t : ℕ) → put-rule-lts.Need-put-opening-requires (given t) (put-rule-at t) put-rule.Post put-rule-Inv-loop put-rule-μ-loop
+put-rule-put-opening-requires t c κs =
+    let s = c .before .before .before .before .before .before .before in
+    let h = s .pre .1 .0 .here in
+    let (v, e, x) = walks-done _ _ _ _ _ (c .before .before .loop .inv .1) (c .before .loop-test .left) (h .rule) (h .sized) (h .stands) in
+    (omega (arith, x .ends, the-fit t s, simp length-append at (ap length e)), put-start (s .pre .1 .2) x)
 
 put-rule-same-length-2 : (t : ℕ) → put-rule-lts.Need-same-length-2 (given t) (put-rule-at t) put-rule.Post put-rule-Inv-loop put-rule-μ-loop
-put-rule-same-length-2 t c = omega (arith, text-length (c .before .before .before .before .before .loop .inv))
+put-rule-same-length-2 t c =
+    let s = c .before .before .before .before .before .before .before .before .before .before in
+    let h = s .pre .1 .0 .here in
+    let (v, e, x) = walks-done _ _ _ _ _ (c .before .before .before .before .before .loop .inv .1) (c .before .before .before .before .loop-test .left) (h .rule) (h .sized) (h .stands) in
+    omega (arith, put-length (s .pre .1 .2) x)
 
 put-rule-returns-2 : (t : ℕ) → put-rule-lts.Need-returns-2 (given t) (put-rule-at t) put-rule.Post put-rule-Inv-loop put-rule-μ-loop
-put-rule-returns-2 t c = walk-done (c .before .before .before .before .before .loop .inv) (c .before .before .before .before .loop-test .left) (c .before .before .put-opening .ensures)
-
-put-rule-returns-3 : (t : ℕ) → put-rule-lts.Need-returns-3 (given t) (put-rule-at t) put-rule.Post put-rule-Inv-loop put-rule-μ-loop
-put-rule-returns-3 t c = λ ρ e st.
-    let d = c .before .before .node-at in
-    rw (← leaf-text _ _ _ _ (d .ensures) (λ i j. omega arith) ρ e st, no-leaf-text _ _ (d .result .kind) _ (omega arith)) (put-none _ _)
+put-rule-returns-2 t c = λ ρ e st.
+    let (v, p, x) = walks-done _ _ _ _ _ (c .before .before .before .before .before .loop .inv .1) (c .before .before .before .before .loop-test .left) ρ e st in
+    rw p (put-before (c .before .before .before .before .before .before .before .before .before .before .pre .1 .2) x (c .before .before .put-opening .ensures))
 
 pub +put-rule-spec : {M : Type 1} → statement M
 +put-rule-spec = close μ-put-rule λ t. put-rule-lts.spec (given t)
@@ -154,6 +176,8 @@ pub +put-rule-spec : {M : Type 1} → statement M
     (put-rule-sub-at t)
     (put-rule-node-at-requires t)
     (put-rule-put-leaf-requires t)
+    (put-rule-same-length t)
+    (put-rule-returns t)
     (put-rule-loop-holds t)
     (put-rule-sub-node-at t)
     (put-rule-node-at-requires-2 t)
@@ -164,8 +188,5 @@ pub +put-rule-spec : {M : Type 1} → statement M
     (put-rule-loop-less t)
     (put-rule-loop-again t)
     (put-rule-put-opening-requires t)
-    (put-rule-same-length t)
-    (put-rule-returns t)
     (put-rule-same-length-2 t)
     (put-rule-returns-2 t)
-    (put-rule-returns-3 t)

@@ -4,7 +4,7 @@ use borrow.Author.Needs.{needs}
 use Rattle.print.specs.Print.{behind}
 use Rattle.print.specs.Pieces.{behindOf}
 use Rattle.ascii.specs.WrittenLaws.{put-none}
-use Rattle.print.specs.PutLaws.{none-behind-last, none-behind}
+use Rattle.print.specs.PiecesLaws.{none-behind}
 use Rattle.print.proofs.put.put_behind.Statement.{statement}
 use Rattle.print.proofs.put.put_behind.Tie as tie
 
@@ -54,7 +54,7 @@ returns c =
     rw (m .before .if1 .taken, m .match .keys1) (c .before .before .put .ensures)
 
 returns-2 : tie.Need-returns-2
-returns-2 c = rw (c .before .if1 .taken, none-behind-last (c .before .before .before .args .kind) (λ e. omega arith)) (put-none _ _)
+returns-2 c = rw (none-behind (c .before .before .before .args .kind) (λ e. omega arith) (λ h k. c .before .if1 .taken)) (put-none _ _)
 
 same-length-2 : tie.Need-same-length-2
 same-length-2 c = search needs
@@ -84,7 +84,7 @@ returns-5 c =
     rw (m .before .if1 .left, m .match2 .keys3) (c .before .before .put4 .ensures)
 
 returns-6 : tie.Need-returns-6
-returns-6 c = rw (c .before .if1 .left, none-behind (c .before .before .before .args .kind) (λ h i. omega arith)) (put-none _ _)
+returns-6 c = rw (none-behind (c .before .before .before .args .kind) {last = c .before .before .before .args .last} (λ e. omega arith) (λ h k. absurd (omega arith))) (put-none _ _)
 
 pub put-behind-spec : {M : Type 1} → statement M
 put-behind-spec =

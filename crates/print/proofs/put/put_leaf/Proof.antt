@@ -6,7 +6,7 @@ use Rattle.image.specs.Decode.{meaning}
 use Rattle.print.specs.Print.{leafText}
 use Rattle.print.specs.Pieces.{leafTextOf}
 use Rattle.ascii.specs.WrittenLaws.{put-none, put-before}
-use Rattle.print.specs.PutLaws.{no-leaf-text}
+use Rattle.print.specs.PiecesLaws.{no-leaf-text}
 use Rattle.print.proofs.put.put_leaf.Statement.{statement}
 use Rattle.print.proofs.put.put_leaf.Tie as tie
 

@@ -5,7 +5,7 @@ use lib.ListN.{length-append}
 use Rattle.print.specs.Print.{opening}
 use Rattle.print.specs.Pieces.{openingOf}
 use Rattle.ascii.specs.WrittenLaws.{put-none, put-before}
-use Rattle.print.specs.PutLaws.{no-opening}
+use Rattle.print.specs.PiecesLaws.{no-opening}
 use Rattle.print.proofs.put.put_opening.Statement.{statement}
 use Rattle.print.proofs.put.put_opening.Tie as tie
 
