@@ -1,0 +1,109 @@
+//! The Rust's side: `policy.rs` as it stands, from APPENDFS_SRC, among the modules that it names. serde's traits are empty
+//! stand-ins, a store has a name and a mode only, and durations follow document 01 in jiff's stead.
+
+/// Stand-ins for the traits of serde that `policy.rs` implements; nothing here calls them.
+#[allow(dead_code)]
+pub mod serde {
+    pub mod de {
+        pub trait Error: Sized {
+            fn custom<T: std::fmt::Display>(message: T) -> Self;
+        }
+    }
+    pub trait Deserializer<'de>: Sized {
+        type Error: de::Error;
+    }
+    pub trait Deserialize<'de>: Sized {
+        fn deserialize<D: Deserializer<'de>>(deserializer: D) -> Result<Self, D::Error>;
+    }
+    pub trait Serializer: Sized {
+        type Ok;
+        type Error;
+        fn serialize_str(self, text: &str) -> Result<Self::Ok, Self::Error>;
+    }
+    pub trait Serialize {
+        fn serialize<S: Serializer>(&self, serializer: S) -> Result<S::Ok, S::Error>;
+    }
+    impl<'de> Deserialize<'de> for String {
+        fn deserialize<D: Deserializer<'de>>(_: D) -> Result<Self, D::Error> {
+            Err(de::Error::custom("not in the comparison"))
+        }
+    }
+}
+
+/// The two functions of the Rust's `clock.rs` that `policy.rs` calls, by document 01's rule for durations.
+pub mod clock {
+    use std::time::Duration;
+
+    /// The units in the order in which they fall, and the milliseconds of each.
+    const UNITS: [(&str, u64); 5] = [("d", 86_400_000), ("h", 3_600_000), ("m", 60_000), ("s", 1_000), ("ms", 1)];
+
+    /// Whether a character is a blank: 9 to 13 or 32.
+    fn is_blank(c: char) -> bool {
+        matches!(c, '\t'..='\r' | ' ')
+    }
+
+    /// One or more parts with optional blanks round them: 1 to 9 digits and a unit each, the units falling.
+    pub fn parse_duration(s: &str) -> Result<Duration, String> {
+        let fault = || Err(format!("'{s}' is no duration"));
+        let mut rest = s.trim_matches(is_blank);
+        let mut allowed = &UNITS[..];
+        let mut total = 0;
+        if rest.is_empty() {
+            return fault();
+        }
+        while !rest.is_empty() {
+            let digits = rest.bytes().take_while(u8::is_ascii_digit).count();
+            if digits == 0 || digits > 9 {
+                return fault();
+            }
+            let (number, behind) = rest.split_at(digits);
+            let letters = behind.bytes().take_while(u8::is_ascii_lowercase).count();
+            let (unit, behind) = behind.split_at(letters);
+            let Some(index) = allowed.iter().position(|known| known.0 == unit) else {
+                return fault();
+            };
+            total += number.parse::<u64>().unwrap() * allowed[index].1;
+            allowed = &allowed[index + 1..];
+            rest = behind.trim_start_matches(is_blank);
+        }
+        Ok(Duration::from_millis(total))
+    }
+
+    /// The nonzero parts in the order of the units, without blanks; `0s` for none.
+    pub fn format_duration(d: Duration) -> String {
+        let mut left = d.as_millis() as u64;
+        let mut text = String::new();
+        for (unit, worth) in UNITS {
+            if left / worth > 0 {
+                text += &format!("{}{unit}", left / worth);
+            }
+            left %= worth;
+        }
+        if text.is_empty() {
+            "0s".to_string()
+        } else {
+            text
+        }
+    }
+}
+
+pub mod remote {
+    /// Of the Rust's `config.rs`: its `RemoteMode`, which `compare/run` takes out of it, and a store of a name and a mode.
+    #[allow(dead_code)]
+    pub mod config {
+        include!(concat!(env!("COMPARE_OUT"), "/mode.rs"));
+
+        #[derive(Clone, Debug)]
+        pub struct ConfiguredRemote {
+            pub name: String,
+            pub mode: RemoteMode,
+        }
+    }
+
+    /// The Rust's `policy.rs`, unchanged.
+    #[allow(dead_code)]
+    pub mod policy {
+        use crate::serde;
+        include!(concat!(env!("APPENDFS_SRC"), "/src/remote/policy.rs"));
+    }
+}
