@@ -88,7 +88,7 @@ pub mod clock {
 }
 
 pub mod remote {
-    /// Of the Rust's `config.rs`: its `RemoteMode`, which `compare/run` takes out of it, and a store of a name and a mode.
+    /// Of the Rust's `config.rs`: its `RemoteMode`, which `compare/build.sh` takes out of it, and a store of a name and a mode.
     #[allow(dead_code)]
     pub mod config {
         include!(concat!(env!("COMPARE_OUT"), "/mode.rs"));
