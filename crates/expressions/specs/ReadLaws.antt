@@ -106,7 +106,7 @@ module _ (s i : List ℕ) where
   says-short h = rw (lt-ltb _ _ h)
 
   module _ (room : 26_628 ≤ length i) where
-    reads : {x : Read} → readOf s ≡ x → readInto s i ≡ readingOf x i
+    pub reads : {x : Read} → readOf s ≡ x → readInto s i ≡ readingOf x i
     unfolding readInto
     reads e = rw (le-ltb _ _ room, e)
 

@@ -4,7 +4,7 @@ use mathlib.Core.Path.{_≡_, refl, sym, ap, _∙_}
 use mathlib.Core.Bool.{Bool, true, false, _&&_, and-false}
 use mathlib.Core.List.{List, [], _∷_, _++_}
 use native.Mathlib.Omega.{arith}
-use borrow.Author.Tests.{le-leb, lt-leb, le-ltb}
+use borrow.Author.Tests.{le-leb, lt-leb}
 use lib.Dec.{leb}
 use lib.ListN.{length, take, drop, length-append}
 use lib.Seq.{take-append-seam}
@@ -19,6 +19,7 @@ use Rattle.image.specs.Standing.{Stands}
 use Rattle.grammar.specs.Reading.{Read, rule, refused, readOf}
 use Rattle.grammar.specs.FitsLaws.{read-decodes}
 use Rattle.expressions.specs.Outcome.{Outcome, outcome, readingOf, readInto}
+use Rattle.expressions.specs.ReadLaws.{reads}
 use Rattle.expressions.specs.declared.Reading.{Reading}
 use Rattle.expressions.specs.declared.Reading.the-variants.{Read as Written}
 use Rattle.stores.specs.Stores.{Entry, isTable, countIn, entriesIn, namesOf, twinOf}
@@ -131,8 +132,7 @@ module _ (i : List ℕ) where
 
 -- ---- what reading writes into a buffer that has room is an image, and lies within the buffer
 pub written-image : (text buffer : List ℕ) {a : Reading} {n : ℕ} {image : List ℕ} → 26_628 ≤ length buffer → outcome a image ≡ readInto text buffer → a ≡ Written n → (n ≤ length image) × (isSome (decode (take n image)) ≡ true)
-unfolding readInto
-written-image text buffer {a} {n} {image} room e is = go (readOf text) refl (rw (le-ltb _ _ room) at e)
+written-image text buffer {a} {n} {image} room e is = go (readOf text) refl (e ∙ reads text buffer room refl)
   where
     go : (x : Read) → readOf text ≡ x → outcome a image ≡ readingOf x buffer → (n ≤ length image) × (isSome (decode (take n image)) ≡ true)
     go (rule r) q o =

@@ -47,10 +47,14 @@ pub record Nothing (l : List ℕ) : Type 0 where
   pub list : Confirmed l
   pub none : (w : List ℕ) → Named w l → ⊥
 
+-- a table has a write-only store of this name
+abbrev pub WriteOnly : List ℕ → List ℕ → Type 0
+WriteOnly w s = (e : Entry) × List·Memᴰ e (entriesIn s) × (e .mode ≡ 2) × (e .name ≡ w)
+
 -- a list with "the write-only stores, and no others, confirmed"
 pub record JustWriteOnly (s l : List ℕ) : Type 0 where
   pub list : Confirmed l
-  pub just : (w : List ℕ) → Named w l ↔ ((e : Entry) × List·Memᴰ e (entriesIn s) × (e .mode ≡ 2) × (e .name ≡ w))
+  pub just : (w : List ℕ) → Named w l ↔ WriteOnly w s
 
 -- ---- rules
 

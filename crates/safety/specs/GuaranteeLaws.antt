@@ -4,7 +4,6 @@ use mathlib.Core.List.{List}
 use mathlib.Core.Option.{Option, none, some}
 use Prim.Native.Nat.{ℕ, _≤_}
 use native.Mathlib.Omega.{arith}
-use borrow.Author.Tests.{le-ltb}
 use lib.ListN.{length, drop}
 use lib.Seq.{take-append-seam}
 use Rattle.image.specs.Rule.{Rule}
@@ -13,7 +12,8 @@ use Rattle.image.specs.Decode.{decode}
 use Rattle.grammar.specs.Reading.{Read, rule, refused, readOf}
 use Rattle.grammar.specs.FitsLaws.{read-decodes}
 use Rattle.grammar.specs.NumberLaws.{read-number}
-use Rattle.expressions.specs.Outcome.{outcome, readingOf, readInto}
+use Rattle.expressions.specs.Outcome.{outcome, readInto}
+use Rattle.expressions.specs.ReadLaws.{reads}
 use Rattle.expressions.specs.declared.Reading.{Reading}
 use Rattle.decide.specs.ReadDecideLaws.{decide-read-says}
 use Rattle.safety.specs.Check.{checkDecoded, checkOf, judgeRead, judgeOf}
@@ -45,18 +45,14 @@ module _ (text s : List ℕ) where
   judge-read e = rw e
 
   module _ (buffer : List ℕ) (room : 26_628 ≤ length buffer) where
-    read-into : {x : Read} → readOf text ≡ x → readInto text buffer ≡ readingOf x buffer
-    unfolding readInto
-    read-into e = rw (le-ltb (length buffer) 26_628 room, e)
-
     -- the bytes written are the image of the text's rule
     image-written : {r : Rule} → readOf text ≡ rule r → (let o = readInto text buffer in bytesWritten (o .answer) (o .image) ≡ encode r)
-    image-written {r} e = rw (read-into e) (take-append-seam (encode r) (drop (length (encode r)) buffer))
+    image-written {r} e = rw (reads text buffer room e) (take-append-seam (encode r) (drop (length (encode r)) buffer))
 
     read-then-check : (x : Read) → readOf text ≡ x → (let o = readInto text buffer in judgeRead x s ≡ thenCheck (o .answer) (o .image) s)
     unfolding checkOf
-    read-then-check (rule r) e = rw (read-into e, take-append-seam (encode r) (drop (length (encode r)) buffer), read-decodes text r e)
-    read-then-check (refused f) e = rw (read-into e)
+    read-then-check (rule r) e = rw (reads text buffer room e, take-append-seam (encode r) (drop (length (encode r)) buffer), read-decodes text r e)
+    read-then-check (refused f) e = rw (reads text buffer room e)
 
   pub judged : Judged text s (judgeOf text s)
   judged = record {

@@ -1,10 +1,11 @@
 -- 20 is due exactly where a rule has a name that is no store's. Assumes nothing.
-use mathlib.Core.Path.{_≡_, refl, sym}
-use mathlib.Core.Bool.{Bool, true, false, not, cond}
+use mathlib.Core.Path.{_≡_, refl}
+use mathlib.Core.Bool.{Bool, true, false, cond}
 use mathlib.Core.List.{List, _++_, List·Memᴰ, List·Memᴰ·head, List·Memᴰ·tail, List·Memᴰ·not-nil, List·Memᴰ·append-cases, Memᴰ·append-left, Memᴰ·append-right}
 use mathlib.Core.Logic.{⊎-elim}
 use Prim.Native.Nat.{ℕ, _+_}
 use native.Mathlib.Omega.{arith}
+use borrow.Author.Tests.{not-false}
 use Rattle.image.specs.Rule.{Leaf, named, olderThan, readable, Rule, leaf, node, Rules, nil, more, sizes, leafNames, namesIn, namesInAll}
 use Rattle.stores.specs.Names.{has}
 use Rattle.stores.specs.Stores.{Entry, namesOf}
@@ -25,16 +26,16 @@ at-no true i e = absurd (let z : _≡_ {A = ℕ} 0 1 = cc in omega arith)
 at-no false i e = refl
 
 module _ (es : List Entry) where
-  stored-append : (vs ws : List (List ℕ)) → Stored es vs → Stored es ws → Stored es (vs ++ ws)
-  stored-append vs ws f g w m = ⊎-elim (f w) (g w) (List·Memᴰ·append-cases vs m)
+  -- of two rules, or of rules and one more: none is unknown in both where the names of both are stores'
+  none-stored : {x y : Unknown} (vs : List (List ℕ)) {ws : List (List ℕ)} → (x ≡ No → Stored es vs) → (y ≡ No → Stored es ws) → first x y ≡ No → Stored es (vs ++ ws)
+  none-stored {x} {y} vs f g e w m = let (p, q) = first-no x y e in ⊎-elim (f p w) (g q w) (List·Memᴰ·append-cases vs m)
+
+  stored-none : {x y : Unknown} (vs ws : List (List ℕ)) → (Stored es vs → x ≡ No) → (Stored es ws → y ≡ No) → Stored es (vs ++ ws) → first x y ≡ No
+  stored-none vs ws f g h = rw (f (λ w m. h w (Memᴰ·append-left ws m)), g (λ w m. h w (Memᴰ·append-right vs m)))
 
   leaf-stored : (l : Leaf) → isUnknown es l ≡ false → Stored es (leafNames l)
   unfolding isUnknown
-  leaf-stored (named v) e w (List·Memᴰ·head p) = rw p (go (has v (namesOf 0 2 es)) e)
-    where
-      go : (b : Bool) → not b ≡ false → b ≡ true
-      go true d = refl
-      go false d = sym d
+  leaf-stored (named v) e w (List·Memᴰ·head p) = rw p (not-false (has v (namesOf 0 2 es)) e)
   leaf-stored (named v) e w (List·Memᴰ·tail m) = absurd (List·Memᴰ·not-nil m)
   leaf-stored (olderThan d) e w m = absurd (List·Memᴰ·not-nil m)
   leaf-stored (readable k) e w m = absurd (List·Memᴰ·not-nil m)
@@ -50,23 +51,19 @@ module _ (es : List Entry) where
 
     pub unknown-no : (r : Rule) (i : ℕ) → unknownIn es r i ≡ No → Stored es (namesIn r)
     unknown-no (leaf l) i e = leaf-stored l (at-no (isUnknown es l) i e)
-    unknown-no (node j rs r) i e =
-        let (p, q) = first-no (unknownAll es rs i) (unknownIn es r (i + sizes rs)) e in
-        stored-append (namesInAll rs) (namesIn r) (unknown-none rs i p) (unknown-no r (i + sizes rs) q)
+    unknown-no (node j rs r) i e = none-stored (namesInAll rs) (λ p. unknown-none rs i p) (λ p. unknown-no r (i + sizes rs) p) e
 
     unknown-none : (rs : Rules) (i : ℕ) → unknownAll es rs i ≡ No → Stored es (namesInAll rs)
     unknown-none nil i e = λ w m. absurd (List·Memᴰ·not-nil m)
-    unknown-none (more rs r) i e =
-        let (p, q) = first-no (unknownAll es rs i) (unknownIn es r (i + sizes rs)) e in
-        stored-append (namesInAll rs) (namesIn r) (unknown-none rs i p) (unknown-no r (i + sizes rs) q)
+    unknown-none (more rs r) i e = none-stored (namesInAll rs) (λ p. unknown-none rs i p) (λ p. unknown-no r (i + sizes rs) p) e
 
   mutual
     unfolding unknownIn namesIn
 
     pub no-unknown : (r : Rule) (i : ℕ) → Stored es (namesIn r) → unknownIn es r i ≡ No
     no-unknown (leaf l) i f = rw (stored-leaf l f)
-    no-unknown (node j rs r) i f = rw (none-unknown rs i (λ w m. f w (Memᴰ·append-left (namesIn r) m)), no-unknown r (i + sizes rs) (λ w m. f w (Memᴰ·append-right (namesInAll rs) m)))
+    no-unknown (node j rs r) i f = stored-none (namesInAll rs) (namesIn r) (λ g. none-unknown rs i g) (λ g. no-unknown r (i + sizes rs) g) f
 
     none-unknown : (rs : Rules) (i : ℕ) → Stored es (namesInAll rs) → unknownAll es rs i ≡ No
     none-unknown nil i f = refl
-    none-unknown (more rs r) i f = rw (none-unknown rs i (λ w m. f w (Memᴰ·append-left (namesIn r) m)), no-unknown r (i + sizes rs) (λ w m. f w (Memᴰ·append-right (namesInAll rs) m)))
+    none-unknown (more rs r) i f = stored-none (namesInAll rs) (namesIn r) (λ g. none-unknown rs i g) (λ g. no-unknown r (i + sizes rs) g) f

@@ -8,7 +8,7 @@ use lib.ListN.{length}
 use Rattle.image.specs.Rule.{Rule}
 use Rattle.image.specs.Encode.{allAscii}
 use Rattle.stores.specs.Names.{has}
-use Rattle.stores.specs.Stores.{Entry, entriesIn}
+use Rattle.stores.specs.Stores.{entriesIn}
 use Rattle.stores.specs.StoresLaws.{well-made-laid}
 use Rattle.stores.specs.WalkLaws.{length-entries}
 use Rattle.stores.specs.MemberLaws.{has-mem, mem-has}
@@ -19,11 +19,7 @@ use Rattle.decide.specs.Evict.{worldOf, evict}
 use Rattle.decide.specs.Decide.{listNames}
 use Rattle.decide.specs.MonotoneLaws.{as-set, both-ways}
 use Rattle.safety.specs.Check.{writeOnly}
-use Rattle.safety.specs.Guarantee.{Table, Confirmed, Named, Nothing, JustWriteOnly}
-
--- a write-only store of this name
-abbrev pub WriteOnly : List ℕ → List ℕ → Type 0
-WriteOnly w s = (e : Entry) × List·Memᴰ e (entriesIn s) × (e .mode ≡ 2) × (e .name ≡ w)
+use Rattle.safety.specs.Guarantee.{Table, Confirmed, Named, Nothing, WriteOnly, JustWriteOnly}
 
 -- ---- which names a list has, and which are those of write-only stores
 module _ {l : List ℕ} (c : Confirmed l) (w : List ℕ) where

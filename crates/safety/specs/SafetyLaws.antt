@@ -2,7 +2,7 @@
 -- write-only stores. Assumes nothing.
 use mathlib.Core.Path.{_≡_, refl, sym, ap, _∙_}
 use mathlib.Core.Bool.{Bool, true, false, false≢true, true≢false}
-use mathlib.Core.List.{List, List·Memᴰ}
+use mathlib.Core.List.{List}
 use mathlib.Core.Logic.{_↔_, _⊎_, inl, inr, ⊎-elim}
 use Prim.Native.Nat.{ℕ, _≤_}
 use native.Mathlib.Omega.{arith}
@@ -10,7 +10,7 @@ use borrow.Author.Tests.{leb-true, leb-false}
 use Rattle.refusals.specs.Refusals.{refusal, unknownStore, unconfirmed, archiveOnly}
 use Rattle.image.specs.Rule.{Rule}
 use Rattle.stores.specs.Names.{has}
-use Rattle.stores.specs.Stores.{Entry, isReadable, entriesIn, namesOf, readyCount}
+use Rattle.stores.specs.Stores.{Entry, isReadable, entriesIn, namesOf}
 use Rattle.stores.specs.MemberLaws.{has-mem, mem-has}
 use Rattle.stores.specs.EntryLaws.{entry-mode, name-entry, entry-named, one-of-name, OneReady, NoneReady, ready-or-none}
 use Rattle.decide.specs.Evict.{worldOf, evict}
@@ -85,16 +85,15 @@ module _ {s : List ℕ} (t : Table s) (r : Rule) where
 
   -- what says evict with no readable store on the list says so at the largest age with just the write-only stores confirmed
   module _ (known : Known r s) {age : ℕ} (young : age ≤ oldest) (ns : List (List ℕ)) where
-    kept : ((e : Entry) → List·Memᴰ e (entriesIn s) → isReadable (e .mode) ≡ true → has (e .name) ns ≡ false) → (w : List ℕ) → Named w s → has w ns ≡ true → has w (writeOnly (entriesIn s)) ≡ true
+    kept : NoneReady (entriesIn s) ns → (w : List ℕ) → Named w s → has w ns ≡ true → has w (writeOnly (entriesIn s)) ≡ true
     kept none w (e, m, p) h = by (isReadable (e .mode)) refl
       where
         by : (b : Bool) → isReadable (e .mode) ≡ b → has w (writeOnly (entriesIn s)) ≡ true
-        by true q = absurd (true≢false (sym h ∙ (rw p at (none e m q))))
+        by true q = absurd (true≢false (sym h ∙ (rw p at (none .1 e m q))))
         by false q = mem-has (write-only-mem s w (e, m, unreadable-two (entry-mode 2 s (t .made) e m) q, p))
 
-    reaches : (readyCount (entriesIn s) ns ≡ 0) → ((e : Entry) → List·Memᴰ e (entriesIn s) → isReadable (e .mode) ≡ true → has (e .name) ns ≡ false) →
-        evict r (worldOf (entriesIn s) age ns) ≡ true → evict r (worldOf (entriesIn s) oldest (writeOnly (entriesIn s))) ≡ true
-    reaches z none = evict-up (worldOf (entriesIn s) age ns) (worldOf (entriesIn s) oldest (writeOnly (entriesIn s))) young (omega (arith, z)) r (λ w m. kept none w (known w m))
+    reaches : NoneReady (entriesIn s) ns → evict r (worldOf (entriesIn s) age ns) ≡ true → evict r (worldOf (entriesIn s) oldest (writeOnly (entriesIn s))) ≡ true
+    reaches none = evict-up (worldOf (entriesIn s) age ns) (worldOf (entriesIn s) oldest (writeOnly (entriesIn s))) young (omega (arith, none .0)) r (λ w m. kept none w (known w m))
 
   to-safe : Known r s → evict r (worldOf (entriesIn s) oldest (writeOnly (entriesIn s))) ≡ false → Safe r s
   to-safe known keep age young l c e = ⊎-elim on off (ready-or-none (entriesIn s) (listNames l))
@@ -103,7 +102,7 @@ module _ {s : List ℕ} (t : Table s) (r : Rule) where
       on (x, m, q, h) = (x, m, q, has-named c (x .name) h)
 
       off : NoneReady (entriesIn s) (listNames l) → ReadableOn s l
-      off (z, none) = absurd (true≢false (sym (reaches known young (listNames l) z none e) ∙ keep))
+      off none = absurd (true≢false (sym (reaches known young (listNames l) none e) ∙ keep))
 
   -- a safe rule keeps with nothing confirmed, and with just the write-only stores
   safe-bare : Safe r s → bare r (entriesIn s) ≡ false

@@ -12,6 +12,7 @@ ghost use Rattle.safety.specs.Check.{unknownIn, checkRule, checkOf, judg
 ghost use Rattle.safety.specs.Guarantee.{Checked, Judged};
 use decide::View;
 use decide::evaluate;
+use expressions::IMAGE_BYTES;
 use expressions::Reading;
 use expressions::read;
 use image::le2;
@@ -121,7 +122,7 @@ pub fn validate_safety(image: &[u8], stores: &[u8]) -> Verdict
 pub fn judge(text: &[u8], stores: &[u8]) -> Verdict
     ensures { λ r. ⌜ (r ≡ judgeOf (now (text .entry)) (now (stores .entry))) × Judged (now (text .entry)) (now (stores .entry)) r ⌝ }
 {
-    let mut image = [0u8; 26_628];
+    let mut image = [0u8; IMAGE_BYTES];
     match read(text, &mut image) {
         Reading::Read(size) => {
             let written = &image[..size];

@@ -4,10 +4,10 @@ use mathlib.Core.Path.{_≡_, refl, sym, ap, _∙_}
 use mathlib.Core.Bool.{Bool, true, false, cond, _&&_, _||_, true≢false, and-eq-true-iff}
 use mathlib.Core.Logic.{_⊎_, inl, inr}
 use mathlib.Core.List.{List, [], _∷_, List·Memᴰ, List·Memᴰ·head, List·Memᴰ·tail, List·Memᴰ·not-nil}
-use Prim.Native.Nat.{ℕ, suc, _+_, _*_, _≤_}
+use Prim.Native.Nat.{ℕ, suc, _+_, _≤_}
 use native.Mathlib.Omega.{arith}
 use borrow.Author.Tests.{leb-true, le-leb}
-use lib.Dec.{leb, eqb}
+use lib.Dec.{leb}
 use lib.ListN.{length, drop, length-take}
 use Rattle.ascii.specs.Letters.{within}
 use Rattle.image.specs.Bytes.{AllBytes}
@@ -16,7 +16,8 @@ use Rattle.image.specs.Encode.{allAscii}
 use Rattle.image.specs.AsciiLaws.{take-ascii, drop-ascii}
 use Rattle.stores.specs.Names.{sameName, has}
 use Rattle.stores.specs.MemberLaws.{mem-has}
-use Rattle.stores.specs.Stores.{Entry, entriesFrom, entriesIn, countIn, totalIn, modesIn, lengthsIn, nameBytesIn, sum, allAtMost, wellMade, isReadable, namesOf, readyCount, twinFrom, twinOf}
+use Rattle.stores.specs.Stores.{Entry, entriesFrom, entriesIn, countIn, modesIn, lengthsIn, nameBytesIn, allAtMost, wellMade, isReadable, namesOf, readyCount, twinFrom, twinOf}
+use Rattle.stores.specs.StoresLaws.{made}
 use Rattle.stores.specs.declared.Twin.{Twin}
 use Rattle.stores.specs.declared.Twin.the-variants.{No, At}
 
@@ -117,13 +118,6 @@ ready-or-none (x ∷ es) ns = go (isReadable (x .mode)) (has (x .name) ns) refl 
     go false h p q (inr n) = inr (n .0, each (λ y. absurd (true≢false (sym y ∙ p))) n)
 
 -- ---- each entry of a well-made table or list: its mode is at most the largest, its name has at most 255 bytes, each below 128
-made-parts : (most : ℕ) (s : List ℕ) → wellMade most s ≡ true → (allAtMost most (modesIn s) ≡ true) × (allAscii (nameBytesIn s) ≡ true)
-unfolding wellMade
-made-parts most s h =
-    let front = leb 4 (length s) && leb (countIn s) 64 && eqb (length s) (4 + 2 * countIn s + totalIn s) && eqb (sum (lengthsIn s)) (totalIn s) in
-    let (p, names) = and-eq-true-iff (front && allAtMost most (modesIn s)) (allAscii (nameBytesIn s)) .0 h in
-    (and-eq-true-iff front (allAtMost most (modesIn s)) .0 p .1, names)
-
 mode-from : (most : ℕ) (ms ls bs : List ℕ) → allAtMost most ms ≡ true → (e : Entry) → List·Memᴰ e (entriesFrom ms ls bs) → e .mode ≤ most
 unfolding entriesFrom allAtMost
 mode-from most [] ls bs h e m = absurd (List·Memᴰ·not-nil m)
@@ -134,7 +128,7 @@ mode-from most (m ∷ ms) (l ∷ ls) bs h e (List·Memᴰ·tail k) =
 
 pub entry-mode : (most : ℕ) (s : List ℕ) → wellMade most s ≡ true → (e : Entry) → List·Memᴰ e (entriesIn s) → e .mode ≤ most
 unfolding entriesIn
-entry-mode most s h = mode-from most (modesIn s) (lengthsIn s) (nameBytesIn s) (made-parts most s h .0)
+entry-mode most s h = mode-from most (modesIn s) (lengthsIn s) (nameBytesIn s) (made most s h .modes)
 
 name-from : (ms ls bs : List ℕ) → AllBytes ls → allAscii bs ≡ true → (e : Entry) → List·Memᴰ e (entriesFrom ms ls bs) → (length (e .name) ≤ 255) × (allAscii (e .name) ≡ true)
 unfolding entriesFrom
@@ -146,4 +140,4 @@ name-from (m ∷ ms) (l ∷ ls) bs b a e (List·Memᴰ·tail k) = name-from ms l
 pub entry-name : (most : ℕ) (s : List ℕ) → AllBytes s → wellMade most s ≡ true → (e : Entry) → List·Memᴰ e (entriesIn s) → (length (e .name) ≤ 255) × (allAscii (e .name) ≡ true)
 unfolding entriesIn
 entry-name most s b h =
-    name-from (modesIn s) (lengthsIn s) (nameBytesIn s) (bytes-at s (4 + countIn s) (countIn s) b) (made-parts most s h .1)
+    name-from (modesIn s) (lengthsIn s) (nameBytesIn s) (bytes-at s (4 + countIn s) (countIn s) b) (made most s h .ascii)

@@ -1,6 +1,6 @@
 -- Laws of well-made tables and lists: each test of the bytes, and that their names lie within them. Assumes nothing.
-use mathlib.Core.Path.{_≡_, refl}
-use mathlib.Core.Bool.{Bool, true, false, _&&_, and-false, false≢true}
+use mathlib.Core.Path.{_≡_}
+use mathlib.Core.Bool.{true, false, _&&_, and-false, and-eq-true-iff}
 use mathlib.Core.List.{List}
 use Prim.Native.Nat.{ℕ, _+_, _*_, _≤_, _<_}
 use native.Mathlib.Omega.{arith}
@@ -9,7 +9,7 @@ use lib.Dec.{eqb, leb}
 use lib.ListN.{length, take, drop}
 use Rattle.image.specs.Bytes.{leAt}
 use Rattle.image.specs.Encode.{allAscii}
-use Rattle.stores.specs.Stores.{countIn, totalIn, lengthsIn, sum, allAtMost, wellMade, Laid}
+use Rattle.stores.specs.Stores.{countIn, totalIn, modesIn, lengthsIn, nameBytesIn, sum, allAtMost, wellMade, Laid}
 
 -- bytes that are too short
 pub unmade-short : (most : ℕ) (s : List ℕ) → length s < 4 → false ≡ wellMade most s
@@ -38,19 +38,31 @@ module _ (most : ℕ) (s : List ℕ) (count total : ℕ) (p : count ≡ leAt s 0
   unfolding wellMade
   made-names h₁ h₂ h₃ h₄ h₅ = rw (← p, ← q, le-leb 4 (length s) h₁, le-leb count 64 h₂, eq-eqb (length s) (4 + 2 * count + total) h₃, eq-eqb (sum (take count (drop (4 + count) s))) total h₄, h₅)
 
--- ---- the names of a well-made table or list lie within it
-middle : (a b c d e f : Bool) → (a && b && c && d && e && f) ≡ true → (b ≡ true) × (c ≡ true) × (d ≡ true)
-middle true true true true e f h = (refl, refl, refl)
-middle true true true false e f h = absurd (false≢true h)
-middle true true false d e f h = absurd (false≢true h)
-middle true false c d e f h = absurd (false≢true h)
-middle false b c d e f h = absurd (false≢true h)
+-- ---- what the tests say of a well-made table or list
+pub record Made (most : ℕ) (s : List ℕ) : Type 0 where
+  pub few : countIn s ≤ 64
+  pub long : length s ≡ 4 + 2 * countIn s + totalIn s
+  pub filled : sum (lengthsIn s) ≡ totalIn s
+  pub modes : allAtMost most (modesIn s) ≡ true
+  pub ascii : allAscii (nameBytesIn s) ≡ true
 
-pub well-made-laid : (most : ℕ) (s : List ℕ) → wellMade most s ≡ true → Laid s
+pub made : (most : ℕ) (s : List ℕ) → wellMade most s ≡ true → Made most s
 unfolding wellMade
+made most s h =
+    let t₁ = leb 4 (length s) in
+    let t₂ = t₁ && leb (countIn s) 64 in
+    let t₃ = t₂ && eqb (length s) (4 + 2 * countIn s + totalIn s) in
+    let t₄ = t₃ && eqb (sum (lengthsIn s)) (totalIn s) in
+    let t₅ = t₄ && allAtMost most (modesIn s) in
+    let (h₅, ascii) = and-eq-true-iff t₅ (allAscii (nameBytesIn s)) .0 h in
+    let (h₄, modes) = and-eq-true-iff t₄ (allAtMost most (modesIn s)) .0 h₅ in
+    let (h₃, filled) = and-eq-true-iff t₃ (eqb (sum (lengthsIn s)) (totalIn s)) .0 h₄ in
+    let (h₂, long) = and-eq-true-iff t₂ (eqb (length s) (4 + 2 * countIn s + totalIn s)) .0 h₃ in
+    let (h₁, few) = and-eq-true-iff t₁ (leb (countIn s) 64) .0 h₂ in
+    record { few = leb-true _ _ few; long = eqb-true _ _ long; filled = eqb-true _ _ filled; modes = modes; ascii = ascii }
+
+-- its names lie within it
+pub well-made-laid : (most : ℕ) (s : List ℕ) → wellMade most s ≡ true → Laid s
 well-made-laid most s h =
-    let (few, long, filled) = middle (leb 4 (length s)) (leb (countIn s) 64) (eqb (length s) (4 + 2 * countIn s + totalIn s)) (eqb (sum (lengthsIn s)) (totalIn s)) _ _ h in
-    let p = leb-true (countIn s) 64 few in
-    let q = eqb-true (length s) (4 + 2 * countIn s + totalIn s) long in
-    let r = eqb-true (sum (lengthsIn s)) (totalIn s) filled in
-    record { arrays = omega arith; names = omega arith; few = p }
+    let m = made most s h in
+    record { arrays = omega (arith, m .long); names = omega (arith, m .long, m .filled); few = m .few }
