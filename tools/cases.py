@@ -1,7 +1,9 @@
 #!/usr/bin/env python3
-"""Writes the list of cases that the program `replay` runs.
+"""Writes cases that the program `replay` runs, with document 01's answers.
 
-usage: python3 tools/cases.py > crates/replay/stdin
+usage: { python3 tools/cases.py; compare/make-list; } > crates/replay/stdin
+
+`compare/make-list` adds cases with the Rust's own answers, in the same format.
 
 A case is a line. `read TEXT BUFFER ANSWER`: the text in hex (`-` where it is empty), the length of
 the lent buffer, and either `no NUMBER PLACE` or `ok IMAGE`, the bytes written in hex.
@@ -2515,6 +2517,8 @@ def all_printings():
 
 
 def main():
+    note('Made by { python3 tools/cases.py; compare/make-list; } > crates/replay/stdin')
+    note('Answers of document 01, printed by tools/cases.py')
     note('read TEXT BUFFER no NUMBER PLACE, or read TEXT BUFFER ok IMAGE; the text and the image in hex')
     for part in (sheet, orders, depths, word_cases, count_cases, duration_cases, list_cases, chain_cases,
                  single_bytes, pairs, lengths, rooms, random_cases):

@@ -196,7 +196,7 @@ fn numbers(compare: &mut dyn FnMut(&[u8])) {
 }
 
 /// Reads into buffers of every length about the one that is needed.
-fn rooms(tally: &mut Tally) {
+fn rooms(tally: &mut dyn Tally) {
     let texts: [&[u8]; 8] =
         [b"a", b"", b"&", b"a &", b"\x80", b"nas && readable(1)", &[b' '; 2049], &filled("", "a||", "a", 2047)];
     for text in texts {
@@ -242,7 +242,7 @@ fn large_rules() -> Vec<PruneExpr> {
 }
 
 /// Tables and lists of 0, 1, 63, 64 and 65 entries with names of every length, and the bytes about them.
-fn tables(tally: &mut Tally) {
+fn tables(tally: &mut dyn Tally) {
     let rule = PruneExpr::Any(vec![
         PruneExpr::Remote("n".repeat(255)),
         PruneExpr::Readable(64),
@@ -284,8 +284,8 @@ fn tables(tally: &mut Tally) {
     }
 }
 
-/// Compares all of the above.
-pub fn all(tally: &mut Tally, given: &Tables) {
+/// Tallies all of the above.
+pub fn all(tally: &mut dyn Tally, given: &Tables) {
     let mut turn = 0;
     for (name, part) in [("lengths", lengths as fn(&mut dyn FnMut(&[u8]))), ("depths", depths), ("counts and durations", numbers)]
     {

@@ -2,6 +2,7 @@
 #![deny(unsafe_code)]
 
 mod bounds;
+mod comparison;
 mod draw;
 mod layout;
 mod lent;
@@ -20,8 +21,8 @@ mod turned;
 // `policy.rs` names these at the crate's root.
 use reference::{clock, remote, serde};
 
+use comparison::Comparison;
 use draw::Draw;
-use oracle::{List, Stores};
 use port::Plant;
 use std::time::Duration;
 
@@ -50,44 +51,10 @@ fn options() -> Option<Options> {
     Some(found)
 }
 
-/// The tables and lists that texts are judged and decided with where nothing is drawn.
-fn fixed() -> (Vec<Stores>, Vec<List>) {
-    let tables: [&[(u8, &str)]; 7] = [
-        &[],
-        &[(0, "a")],
-        &[(2, "a")],
-        &[(0, "nas"), (2, "a"), (1, "2"), (2, "1d"), (0, ""), (2, "OR")],
-        &[(2, "a"), (2, ""), (2, "2"), (2, "older_than"), (0, "any"), (2, "ALL"), (2, "at_least"), (1, "b")],
-        &[(0, "a"), (1, "b"), (0, "a")],
-        &[
-            (2, "b"),
-            (0, "a"),
-            (1, "n"),
-            (2, "x."),
-            (0, "older_than"),
-            (0, "any"),
-            (1, "ALL"),
-            (0, "at_least"),
-            (0, "2"),
-            (0, "1d"),
-        ],
-    ];
-    let lists: [&[(u8, &str)]; 5] = [
-        &[],
-        &[(0, "a")],
-        &[(0, "b"), (0, ""), (0, "2")],
-        &[(0, "a"), (0, "a"), (0, "any"), (0, "nobody")],
-        &[(0, "1d"), (0, "nas")],
-    ];
-    let mut stores: Vec<Stores> = tables.iter().map(|entries| Stores::of(layout::table(entries))).collect();
-    stores.push(Stores::of(vec![1, 0, 1, 0, 3, 1, b'a']));
-    (stores, lists.iter().map(|entries| List::of(layout::table(entries))).collect())
-}
-
 /// Runs every part: what is exhausted first, then drawn inputs until the time is up.
 fn compare(options: &Options) -> bool {
-    let mut tally = tally::Tally::new(options.plant, Duration::from_secs(options.seconds));
-    let (stores, lists) = fixed();
+    let mut tally = Comparison::new(options.plant, Duration::from_secs(options.seconds));
+    let (stores, lists) = sequences::fixed();
     let tables = sequences::Tables { stores: &stores, lists: &lists };
     let mut draw = Draw::new(options.seed);
     stated::all(&mut tally, &stores, &lists);

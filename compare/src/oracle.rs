@@ -222,3 +222,8 @@ pub fn check(rule: Option<&PruneExpr>, stores: &Stores) -> Result<(), No> {
         number => (number, 0),
     })
 }
+
+/// What judging answers for a text that reads as a rule, or doesn't.
+pub fn judge(rule: &Result<PruneExpr, No>, stores: &Stores) -> Result<(), No> {
+    rule.as_ref().map_err(|refusal| *refusal).and_then(|rule| check(Some(rule), stores))
+}

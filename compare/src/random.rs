@@ -33,7 +33,7 @@ fn given(draw: &mut Draw, most: usize) -> Given {
 }
 
 /// Spelled and printed rules, then the same damaged by one to three edits.
-fn texts(tally: &mut Tally, draw: &mut Draw, given: &Given) {
+fn texts(tally: &mut dyn Tally, draw: &mut Draw, given: &Given) {
     for _ in 0..300 {
         let depth = 1 + draw.below(4);
         let odd = draw.once_in(4);
@@ -89,7 +89,7 @@ fn wide(draw: &mut Draw, mut text: String) -> String {
 }
 
 /// Texts about the longest and the deepest, then edited once.
-fn bounds(tally: &mut Tally, draw: &mut Draw, given: &Given) {
+fn bounds(tally: &mut dyn Tally, draw: &mut Draw, given: &Given) {
     tally.part("drawn at the boundaries");
     for way in 0..12 {
         let rule = draw::rule(draw, 3, false);
@@ -108,7 +108,7 @@ fn bounds(tally: &mut Tally, draw: &mut Draw, given: &Given) {
 }
 
 /// Images of drawn rules, then the same damaged: 16 exactly where they are no rule's image.
-fn images(tally: &mut Tally, draw: &mut Draw, given: &Given) {
+fn images(tally: &mut dyn Tally, draw: &mut Draw, given: &Given) {
     for way in 0..120 {
         let depth = draw.below(5);
         let mut rule = draw::rule(draw, depth, true);
@@ -136,7 +136,7 @@ fn images(tally: &mut Tally, draw: &mut Draw, given: &Given) {
 }
 
 /// Prints, checks and decides on an image.
-fn on_image(tally: &mut Tally, draw: &mut Draw, image: &[u8], rule: Option<&PruneExpr>, given: &Given) {
+fn on_image(tally: &mut dyn Tally, draw: &mut Draw, image: &[u8], rule: Option<&PruneExpr>, given: &Given) {
     tally.printing(image, rule, draw.number());
     let (at, list) = (draw.below(given.stores.len()), draw.below(given.lists.len()));
     tally.check(image, rule, &given.stores[at]);
@@ -147,7 +147,7 @@ fn on_image(tally: &mut Tally, draw: &mut Draw, image: &[u8], rule: Option<&Prun
 }
 
 /// Tables and lists of up to 64 entries, whole and damaged, with rules that name what they hold.
-fn tables(tally: &mut Tally, draw: &mut Draw) {
+fn tables(tally: &mut dyn Tally, draw: &mut Draw) {
     for way in 0..40 {
         let most = if way % 4 == 0 { 64 } else { 6 };
         let whole = (draw::table(draw, most, 2, way % 10 == 3), draw::table(draw, most, 0, way % 2 == 0));
@@ -201,7 +201,7 @@ fn rename(draw: &mut Draw, rule: &mut PruneExpr, names: &[&str]) {
 }
 
 /// One round of each.
-pub fn round(tally: &mut Tally, draw: &mut Draw) {
+pub fn round(tally: &mut dyn Tally, draw: &mut Draw) {
     let most = draw.of(&[3, 6, 12, 64]);
     let given = given(draw, most);
     texts(tally, draw, &given);

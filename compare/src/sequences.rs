@@ -1,9 +1,10 @@
 //! Inputs that are exhausted: token sequences and short texts.
 
+use crate::layout;
 use crate::oracle::{List, Stores};
 use crate::tally::Tally;
 
-/// Tokens whose sequences up to the full length are all compared; they reach 4 to 14.
+/// Tokens whose sequences up to the full length all stand; they reach 4 to 14.
 const TOKENS: [&str; 19] = [
     "(",
     ")",
@@ -44,15 +45,49 @@ fn in_word(byte: Option<&u8>) -> bool {
     byte.is_some_and(|byte| byte.is_ascii_alphanumeric() || b"_-.".contains(byte))
 }
 
-/// What is compared of each text, and where its tables come from.
+/// The tables and lists that texts are judged and decided with.
 pub struct Tables<'a> {
     pub stores: &'a [Stores],
     pub lists: &'a [List],
 }
 
-/// Compares the sequences of exactly `length` tokens, chosen by counting; where the alphabet goes beyond its first `plain`
+/// The tables and lists that texts are judged and decided with where nothing is drawn.
+pub fn fixed() -> (Vec<Stores>, Vec<List>) {
+    let tables: [&[(u8, &str)]; 7] = [
+        &[],
+        &[(0, "a")],
+        &[(2, "a")],
+        &[(0, "nas"), (2, "a"), (1, "2"), (2, "1d"), (0, ""), (2, "OR")],
+        &[(2, "a"), (2, ""), (2, "2"), (2, "older_than"), (0, "any"), (2, "ALL"), (2, "at_least"), (1, "b")],
+        &[(0, "a"), (1, "b"), (0, "a")],
+        &[
+            (2, "b"),
+            (0, "a"),
+            (1, "n"),
+            (2, "x."),
+            (0, "older_than"),
+            (0, "any"),
+            (1, "ALL"),
+            (0, "at_least"),
+            (0, "2"),
+            (0, "1d"),
+        ],
+    ];
+    let lists: [&[(u8, &str)]; 5] = [
+        &[],
+        &[(0, "a")],
+        &[(0, "b"), (0, ""), (0, "2")],
+        &[(0, "a"), (0, "a"), (0, "any"), (0, "nobody")],
+        &[(0, "1d"), (0, "nas")],
+    ];
+    let mut stores: Vec<Stores> = tables.iter().map(|entries| Stores::of(layout::table(entries))).collect();
+    stores.push(Stores::of(vec![1, 0, 1, 0, 3, 1, b'a']));
+    (stores, lists.iter().map(|entries| List::of(layout::table(entries))).collect())
+}
+
+/// Tallies the sequences of exactly `length` tokens, chosen by counting; where the alphabet goes beyond its first `plain`
 /// tokens, only those with a token from there on.
-fn of_length(tally: &mut Tally, tables: &Tables, alphabet: &[Vec<u8>], plain: usize, length: usize, turn: &mut u64) {
+fn of_length(tally: &mut dyn Tally, tables: &Tables, alphabet: &[Vec<u8>], plain: usize, length: usize, turn: &mut u64) {
     let mut chosen = vec![0; length];
     let mut text = Vec::new();
     loop {
@@ -86,9 +121,9 @@ fn alphabet(tokens: &[&str]) -> Vec<Vec<u8>> {
     tokens.iter().map(|token| token.as_bytes().to_vec()).collect()
 }
 
-/// Compares all token sequences up to that length, shorter ones that have rarer or long tokens among them, and longer ones over
+/// Tallies all token sequences up to that length, shorter ones that have rarer or long tokens among them, and longer ones over
 /// two small alphabets.
-pub fn tokens(tally: &mut Tally, tables: &Tables, longest: usize) {
+pub fn tokens(tally: &mut dyn Tally, tables: &Tables, longest: usize) {
     let (plain, calls, chains) = (alphabet(&TOKENS), alphabet(&CALLS), alphabet(&CHAINS));
     let mut more = plain.clone();
     more.extend(alphabet(&MORE));
@@ -110,8 +145,8 @@ pub fn tokens(tally: &mut Tally, tables: &Tables, longest: usize) {
     }
 }
 
-/// Compares all texts up to three of the chosen bytes, and all of up to two bytes of any sort.
-pub fn short_texts(tally: &mut Tally, tables: &Tables) {
+/// Tallies all texts up to three of the chosen bytes, and all of up to two bytes of any sort.
+pub fn short_texts(tally: &mut dyn Tally, tables: &Tables) {
     let mut turn = 0;
     tally.part("short texts");
     let mut compare = |text: &[u8]| {

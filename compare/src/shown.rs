@@ -3,6 +3,7 @@
 //! store confirmed; 21 exactly if it evicts at the largest age with nothing confirmed; 22 exactly if not that, and it evicts at
 //! the largest age with just the write-only stores confirmed.
 
+use crate::comparison::Comparison;
 use crate::draw::{self, Draw};
 use crate::layout;
 use crate::oracle::{self, List, No, Stores};
@@ -102,7 +103,7 @@ fn knows(rule: &PruneExpr, many: usize) -> bool {
 }
 
 /// The number that the port's own decisions show for a rule and a table: 0 for a pass.
-fn shown(tally: &mut Tally, image: &[u8], rule: &PruneExpr, table: &Modes, lists: &[List]) -> u8 {
+fn shown(tally: &mut Comparison, image: &[u8], rule: &PruneExpr, table: &Modes, lists: &[List]) -> u8 {
     let many = table.modes.len();
     let set = |readable: bool| (0..many).filter(|&at| (table.modes[at] < 2) == readable).fold(0, |set, at| set | 1 << at);
     let (readable, archive): (usize, usize) = (set(true), set(false));
@@ -130,7 +131,7 @@ fn shown(tally: &mut Tally, image: &[u8], rule: &PruneExpr, table: &Modes, lists
 }
 
 /// Holds judge on a text to the decisions, for every table.
-fn hold(tally: &mut Tally, text: &str, tables: &[Modes], lists: &[List]) {
+fn hold(tally: &mut Comparison, text: &str, tables: &[Modes], lists: &[List]) {
     let read: Result<PruneExpr, No> = oracle::read(text.as_bytes());
     let Ok(rule) = &read else {
         for table in tables {
@@ -153,7 +154,7 @@ fn hold(tally: &mut Tally, text: &str, tables: &[Modes], lists: &[List]) {
 }
 
 /// Holds judge to the decisions on all small rules.
-pub fn small(tally: &mut Tally) {
+pub fn small(tally: &mut Comparison) {
     let (tables, lists) = (all_tables(), all_lists());
     tally.part("judge held to every decision, small rules");
     for text in small_rules() {
@@ -162,7 +163,7 @@ pub fn small(tally: &mut Tally) {
 }
 
 /// Holds judge to the decisions on drawn rules.
-pub fn random(tally: &mut Tally, draw: &mut Draw, many: usize) {
+pub fn random(tally: &mut Comparison, draw: &mut Draw, many: usize) {
     let (tables, lists) = (all_tables(), all_lists());
     tally.part("judge held to every decision, drawn rules");
     for _ in 0..many {

@@ -79,7 +79,7 @@ const VERDICTS: [(&str, u8); 8] = [
 ];
 
 /// Holds the answers due to those stated, and the port to both.
-pub fn all(tally: &mut Tally, stores: &[Stores], lists: &[List]) {
+pub fn all(tally: &mut dyn Tally, stores: &[Stores], lists: &[List]) {
     tally.part("stated answers");
     for (text, n, m, printed) in READ {
         let rule = oracle::read(text.as_bytes());

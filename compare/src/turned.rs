@@ -17,7 +17,7 @@ const TEXTS: [&str; 7] = [
 ];
 
 /// Compares printing images of up to four nodes of every kind and size, most of which do not tile.
-fn small_images(tally: &mut Tally) {
+fn small_images(tally: &mut dyn Tally) {
     const KINDS: [u32; 6] = [0, 1, 3, 4, 5, 6];
     tally.part("all images of up to four nodes");
     for n in 1..=4_usize {
@@ -54,7 +54,7 @@ fn turned(bytes: &[u8], mut compare: impl FnMut(&[u8])) {
 }
 
 /// Compares printing, checking and deciding on images with each byte at each value.
-fn turned_images(tally: &mut Tally) {
+fn turned_images(tally: &mut dyn Tally) {
     let stores = Stores::of(layout::table(&[(0, "nas"), (2, "vault"), (1, "a"), (2, "b"), (2, "")]));
     let list = List::of(layout::table(&[(0, "vault"), (0, "b"), (0, "")]));
     tally.part("images with each byte at each value");
@@ -72,7 +72,7 @@ fn turned_images(tally: &mut Tally) {
 }
 
 /// Compares checking, judging and deciding with tables and lists with each byte at each value.
-fn turned_tables(tally: &mut Tally) {
+fn turned_tables(tally: &mut dyn Tally) {
     let text = b"at_least(2, nas, vault, x, '', readable)";
     let read = oracle::read(text);
     let rule = read.as_ref().ok();
@@ -97,7 +97,7 @@ fn turned_tables(tally: &mut Tally) {
 }
 
 /// Compares all of the above.
-pub fn all(tally: &mut Tally) {
+pub fn all(tally: &mut dyn Tally) {
     turned_images(tally);
     turned_tables(tally);
     small_images(tally);
