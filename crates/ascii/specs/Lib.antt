@@ -1,5 +1,6 @@
 pub mod Text
 pub mod TextLaws
+pub mod LargestLaws
 pub mod Letters
 pub mod LettersLaws
 pub mod TestLaws

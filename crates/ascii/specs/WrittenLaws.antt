@@ -4,9 +4,10 @@ use mathlib.Core.List.{List, [], _∷_, _++_, append-assoc}
 use Prim.Native.Nat.{ℕ, _+_, _-_, _≤_, _<_}
 use native.Mathlib.Nat.{add-assoc, add-zero, zero-add}
 use native.Mathlib.Numerals.{add-one}
+use native.Mathlib.Decide.{ℕ-discrete}
 use native.Mathlib.Omega.{arith}
 use lib.ListN.{length, getD, set, take, drop, length-append, length-take, length-drop, take-append-drop}
-use lib.Seq.{length-take-le, take-suc, take-at, take-append-le, take-take, drop-at, drop-drop, sets, sets-eq}
+use lib.Seq.{length-take-le, take-suc, take-at, take-append-le, take-take, drop-at, drop-drop, sets, sets-eq, getD-set-same, getD-set-other}
 use Rattle.ascii.specs.Written.{written, Put}
 
 pub written-none : (s : List ℕ) (at : ℕ) → s ≡ written s at []
@@ -80,3 +81,11 @@ put-before {a} {b} {c} {p} {s} {e} {v} {w} h x y =
 pub put-length : {a b : List ℕ} {s e : ℕ} {v : List ℕ} → e ≤ length a → Put a b s e v → length b ≡ length a
 unfolding written
 put-length {a} {b} {s} {e} {v} h x = rw (x .text) (simp (length-append, length-take, length-drop) (omega arith))
+
+-- ---- what is known of an element after a write
+pub after-set : (P : ℕ → Type 0) (l : List ℕ) (i a j : ℕ) → i < length l → (j ≡ i → P a) → ((j ≡ i → ⊥) → P (getD l j 0)) → P (getD (set l i a) j 0)
+after-set P l i a j lt here there = go (ℕ-discrete j i)
+  where
+    go : Dec (j ≡ i) → P (getD (set l i a) j 0)
+    go (yes e) = rw (e, getD-set-same l i a 0 lt) (here e)
+    go (no n) = rw (getD-set-other l i j a 0 n) (there n)

@@ -1,8 +1,9 @@
 // Bytes as letters and digits, two byte strings compared, and bytes put into a text.
 ghost use mathlib.Core.Path.{_≡_};
 ghost use Prim.Native.Nat.{_≤_};
-ghost use lib.ListN.{length};
+ghost use lib.ListN.{length, drop};
 ghost use Rattle.ascii.specs.Letters.{isDigit, lower, foldedIf, equalBy, equal, equalIgnoringCase};
+ghost use Rattle.ascii.specs.Text.{largest};
 ghost use Rattle.ascii.specs.Written.{Put};
 
 // The byte is a decimal digit.
@@ -63,6 +64,21 @@ pub fn eq_ignore_ascii_case(a: &[u8], b: &[u8]) -> bool
     ensures { λ r. ⌜ r ≡ equalIgnoringCase (now (a .entry)) (now (b .entry)) ⌝ }
 {
     eq_folded(a, b, true)
+}
+
+// The largest byte from a position on, or 0.
+pub fn largest_from(s: &[u8], at: usize) -> u8
+    ensures { λ r. ⌜ r ≡ largest (drop at (now (s .entry))) ⌝ }
+{
+    let mut most: u8 = 0;
+    let mut i = at;
+    while i < s.len() {
+        if most < s[i] {
+            most = s[i];
+        }
+        i += 1;
+    }
+    most
 }
 
 // Puts a piece so that it ends at a position, and answers where it begins.

@@ -7,6 +7,7 @@ pub mod ReadDecideLaws
 pub mod Subtree
 pub mod MeaningLaws
 pub mod SubtreeLaws
+pub mod SaidLaws
 pub mod ReadingLaws
 pub mod InsideLaws
 pub mod AnswerLaws

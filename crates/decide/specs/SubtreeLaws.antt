@@ -11,7 +11,6 @@ use Rattle.image.specs.EncodeLaws.{size-pos}
 use Rattle.image.specs.StandingLaws.{root-size}
 use Rattle.image.specs.Standing.{Stands, StandAll}
 use Rattle.decide.specs.Evict.{World, leafSays, yeses, joinSays, evict, answers}
-use Rattle.decide.specs.JoinLaws.{yeses-le}
 use Rattle.decide.specs.Subtree.{Subtree}
 use Rattle.decide.specs.MeaningLaws.{NoLeaf, NoJoin}
 
@@ -20,113 +19,119 @@ unfolding yeses
 yeses-moved true bs y z e = omega arith
 yeses-moved false bs y z e = omega arith
 
-answers-few : (rs : Rules) (v : World) → length (answers rs v) ≤ sizes rs
-unfolding answers size
-answers-few nil v = omega arith
-answers-few (more rs r) v = omega (arith, answers-few rs v, size-pos r)
+-- a count goes up by one at most
+pub moved-few : (b : Bool) {y z : ℕ} → z ≡ cond b (suc y) y → z ≤ suc y
+moved-few true e = omega arith
+moved-few false e = omega arith
 
--- of the rules rs and r, `rest` are not yet asked, and stand from `from` up to `end`; of the t asked, y say evict
-pub record Walk (f : ℕ → Cell) (v : World) (from end y t : ℕ) (rs : Rules) (r : Rule) (rest : Rules) : Type 0 where
+-- of the rules rs and r, `rest` are not yet asked, and stand from `from` up to `end`; in each world that
+-- counts, y of the t asked say evict
+pub record Walk (f : ℕ → Cell) (W : World → Type 0) (from end y t : ℕ) (rs : Rules) (r : Rule) (rest : Rules) : Type 0 where
   pub standing : StandAll rest f from
   pub ends : from + sizes rest ≡ end
-  pub evicts : y + yeses (answers rest v) ≡ yeses (answers (more rs r) v)
-  pub told : t + length (answers rest v) ≡ length (answers (more rs r) v)
+  pub evicts : (v : World) → W v → y + yeses (answers rest v) ≡ yeses (answers (more rs r) v)
+  pub told : (v : World) → W v → t + length (answers rest v) ≡ length (answers (more rs r) v)
 
 -- so for whatever combinator has the k cells from `from` on
-abbrev pub Walks : (ℕ → Cell) → World → ℕ → ℕ → ℕ → ℕ → ℕ → Type 0
-Walks f v from k end y t =
-    (j : Join) (rs : Rules) (r : Rule) → size (node j rs r) ≡ k → Stands (node j rs r) f from → (rest : Rules) × Walk f v from end y t rs r rest
+abbrev pub Walks : (ℕ → Cell) → (World → Type 0) → ℕ → ℕ → ℕ → ℕ → ℕ → Type 0
+Walks f W from k end y t =
+    (j : Join) (rs : Rules) (r : Rule) → size (node j rs r) ≡ k → Stands (node j rs r) f from → (rest : Rules) × Walk f W from end y t rs r rest
 
 -- the last rule that is not yet asked
-pub record Last (f : ℕ → Cell) (from k end y t : ℕ) : Type 0 where
+pub record Last (f : ℕ → Cell) (from end : ℕ) : Type 0 where
   pub before : Rules
   pub child : Rule
   pub stands : Stands child f (from + sizes before)
   pub ends : from + sizes before + size child ≡ end
-  pub few-evict : y < k
-  pub few : t < k
 
--- an answer is that of whatever rule has the k cells from `from` on
-abbrev pub Answered : (ℕ → Cell) → World → ℕ → ℕ → Bool → Type 0
-Answered f v from k b = (r : Rule) → size r ≡ k → Stands r f from → b ≡ evict r v
+-- an answer is that of whatever rule has the k cells from `from` on, in each world that counts
+abbrev pub Answered : (ℕ → Cell) → (World → Type 0) → ℕ → ℕ → Bool → Type 0
+Answered f W from k b = (r : Rule) (v : World) → size r ≡ k → Stands r f from → W v → b ≡ evict r v
 
-module _ (f : ℕ → Cell) (v : World) (from k : ℕ) where
-  pub walks-start : Walks f v from k (from + k - 1) 0 0
+module _ (f : ℕ → Cell) (W : World → Type 0) (from k : ℕ) where
+  pub walks-start : Walks f W from k (from + k - 1) 0 0
   unfolding size Stands
   walks-start j rs r e st =
-      (more rs r, record { standing = (st .0, st .1); ends = omega arith; evicts = omega arith; told = omega arith })
+      (more rs r, record { standing = (st .0, st .1); ends = omega arith; evicts = λ v w. omega arith; told = λ v w. omega arith })
 
   -- the walk has come to `end`
-  module _ {end y t : ℕ} (ws : Walks f v from k end y t) where
-    last-of : (rs : Rules) (r : Rule) → suc (sizes rs + size r) ≡ k → from < end → (rest : Rules) → Walk f v from end y t rs r rest → Last f from k end y t
-    unfolding size Stands answers
-    last-of rs r e lt nil w = absurd (omega (arith, w .ends))
-    last-of rs r e lt (more rest q) w =
+  module _ {end y t : ℕ} (ws : Walks f W from k end y t) where
+    last-of : (rs : Rules) (r : Rule) → from < end → (rest : Rules) → Walk f W from end y t rs r rest → Last f from end
+    unfolding size Stands
+    last-of rs r lt nil w = absurd (omega (arith, w .ends))
+    last-of rs r lt (more rest q) w =
         let h = w .ends in
-        let a = w .evicts in
-        let b = w .told in
-        let c = answers-few (more rs r) v in
-        let d = yeses-le (answers (more rs r) v) in
-        record { before = rest; child = q; stands = w .standing .1; ends = omega arith; few-evict = omega arith; few = omega arith }
+        record { before = rest; child = q; stands = w .standing .1; ends = omega arith }
 
-    pub last : Subtree f from k → NoLeaf (f (from + k - 1) .what) → from < end → Last f from k end y t
+    pub last : Subtree f from k → NoLeaf (f (from + k - 1) .what) → from < end → Last f from end
     unfolding size Stands
     last sub other lt = by (sub .rule) (sub .sized) (sub .stands)
       where
-        by : (r : Rule) → size r ≡ k → Stands r f from → Last f from k end y t
+        by : (r : Rule) → size r ≡ k → Stands r f from → Last f from end
         by (leaf l) e st =
             let p : from + k - 1 ≡ from = omega arith in
             absurd (other l (rw p (st .0)))
-        by (node j rs r) e st = let (rest, w) = ws j rs r e st in last-of rs r e lt rest w
+        by (node j rs r) e st = let (rest, w) = ws j rs r e st in last-of rs r lt rest w
 
     -- the cell before `end` says z
     module _ {z : ℕ} (says : z ≡ f (end - 1) .size) where
-      next-of : (b : Bool) {y′ : ℕ} (rs : Rules) (r : Rule) → from < end → Answered f v (end - z) z b → y′ ≡ cond b (suc y) y → (rest : Rules) → Walk f v from end y t rs r rest → (rest : Rules) × Walk f v from (end - z) y′ (t + 1) rs r rest
+      next-of : (b : Bool) {y′ : ℕ} (rs : Rules) (r : Rule) → from < end → Answered f W (end - z) z b → y′ ≡ cond b (suc y) y → (rest : Rules) → Walk f W from end y t rs r rest → (rest : Rules) × Walk f W from (end - z) y′ (t + 1) rs r rest
       unfolding size Stands answers
       next-of b rs r lt ans ey nil w = absurd (omega (arith, w .ends))
       next-of b {y′} rs r lt ans ey (more rest q) w =
           let h = w .ends in
-          let told = w .told in
           let pe : from + sizes rest + size q - 1 ≡ end - 1 = omega arith in
           let pq : size q ≡ z = sym (rw pe at (root-size q f (from + sizes rest) (w .standing .1))) ∙ sym says in
           let pf : from + sizes rest ≡ end - z = omega arith in
-          let said : b ≡ evict q v = ans q pq (rw pf at (w .standing .1)) in
-          let e : y + yeses (b ∷ answers rest v) ≡ yeses (answers (more rs r) v) = rw said (w .evicts) in
-          (rest, record { standing = w .standing .0; ends = pf; evicts = yeses-moved b (answers rest v) y y′ ey ∙ e; told = omega arith })
+          let st : Stands q f (end - z) = rw pf at (w .standing .1) in
+          let e : (v : World) → W v → y + yeses (b ∷ answers rest v) ≡ yeses (answers (more rs r) v) = λ v i. rw (ans q v pq st i) (w .evicts v i) in (
+            rest,
+            record {
+              standing = w .standing .0;
+              ends = pf;
+              evicts = λ v i. yeses-moved b (answers rest v) y y′ ey ∙ e v i;
+              told = λ v i. omega (arith, w .told v i);
+            },
+          )
 
       -- one child more is asked
-      pub walks-next : from < end → (b : Bool) {y′ : ℕ} → Answered f v (end - z) z b → y′ ≡ cond b (suc y) y → Walks f v from k (end - z) y′ (t + 1)
+      pub walks-next : from < end → (b : Bool) {y′ : ℕ} → Answered f W (end - z) z b → y′ ≡ cond b (suc y) y → Walks f W from k (end - z) y′ (t + 1)
       walks-next lt b ans ey j rs r e st = let (rest, w) = ws j rs r e st in next-of b rs r lt ans ey rest w
 
-    done-of : (rs : Rules) (r : Rule) → end ≤ from → (rest : Rules) → Walk f v from end y t rs r rest → (yeses (answers (more rs r) v) ≡ y) × (length (answers (more rs r) v) ≡ t)
+    done-of : (rs : Rules) (r : Rule) → end ≤ from → (rest : Rules) → Walk f W from end y t rs r rest → (v : World) → W v → (yeses (answers (more rs r) v) ≡ y) × (length (answers (more rs r) v) ≡ t)
     unfolding size answers yeses
-    done-of rs r le nil w = (omega (arith, w .evicts), omega (arith, w .told))
-    done-of rs r le (more rest q) w = absurd (omega (arith, w .ends, size-pos q))
+    done-of rs r le nil w v i = (omega (arith, w .evicts v i), omega (arith, w .told v i))
+    done-of rs r le (more rest q) w v i = absurd (omega (arith, w .ends, size-pos q))
 
     -- all are asked
-    pub join-done : {m : Meaning} {b : Bool} → m ≡ f (from + k - 1) .what → NoLeaf m → end ≤ from → ((j : Join) (bs : List Bool) → m ≡ aJoin j → yeses bs ≡ y → length bs ≡ t → b ≡ joinSays j bs) → Answered f v from k b
+    pub join-done : {m : Meaning} {b : Bool} → m ≡ f (from + k - 1) .what → NoLeaf m → end ≤ from → ((j : Join) (bs : List Bool) → m ≡ aJoin j → yeses bs ≡ y → length bs ≡ t → b ≡ joinSays j bs) → Answered f W from k b
     unfolding size Stands evict answers
-    join-done p other le says (leaf l) e st =
+    join-done p other le says (leaf l) v e st i =
         let q : from ≡ from + k - 1 = omega arith in
         absurd (other l (p ∙ (rw q at (st .0))))
-    join-done p other le says (node j rs r) e st =
+    join-done p other le says (node j rs r) v e st i =
         let q : from + sizes rs + size r ≡ from + k - 1 = omega arith in
         let (rest, w) = ws j rs r e st in
-        let (x, z) = done-of rs r le rest w in
+        let (x, z) = done-of rs r le rest w v i in
         says j (answers (more rs r) v) (p ∙ (rw q at (st .2))) x z
 
-  -- a leaf has no children
-  pub leaf-done : {m : Meaning} {b : Bool} → m ≡ f (from + k - 1) .what → NoJoin m → ((l : Leaf) → m ≡ aLeaf l → b ≡ leafSays l v) → Answered f v from k b
+  -- a leaf has no children: it is known by its meaning, or by its one cell
+  pub leaf-done : {m : Meaning} {b : Bool} → m ≡ f (from + k - 1) .what → NoJoin m → ((l : Leaf) (v : World) → m ≡ aLeaf l → W v → b ≡ leafSays l v) → Answered f W from k b
   unfolding size Stands evict
-  leaf-done p other says (leaf l) e st =
+  leaf-done p other says (leaf l) v e st i =
       let q : from ≡ from + k - 1 = omega arith in
-      says l (p ∙ (rw q at (st .0)))
-  leaf-done p other says (node j rs r) e st =
+      says l v (p ∙ (rw q at (st .0))) i
+  leaf-done p other says (node j rs r) v e st i =
       let q : from + sizes rs + size r ≡ from + k - 1 = omega arith in
       absurd (other j (p ∙ (rw q at (st .2))))
 
+  pub one-done : {b : Bool} → k ≡ 1 → ((l : Leaf) (v : World) → f from .what ≡ aLeaf l → W v → b ≡ leafSays l v) → Answered f W from k b
+  unfolding size Stands evict
+  one-done one says (leaf l) v e st i = says l v (st .0) i
+  one-done one says (node j rs r) v e st i = absurd (omega (arith, size-pos r))
+
 -- the last rule's size is what the cell before `end` says, and it stands there
-module _ {f : ℕ → Cell} {from k end y t : ℕ} (l : Last f from k end y t) {z : ℕ} (says : z ≡ f (end - 1) .size) where
+module _ {f : ℕ → Cell} {from end : ℕ} (l : Last f from end) {z : ℕ} (says : z ≡ f (end - 1) .size) where
   pub last-size : z ≡ size (l .child)
   last-size =
       let h = l .ends in

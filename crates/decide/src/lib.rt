@@ -7,21 +7,20 @@ ghost use lib.ListN.{length};
 ghost use Rattle.image.specs.Rule.{Rule, Leaf, Join};
 ghost use Rattle.image.specs.Rule.{size as sizeOf};
 ghost use Rattle.image.specs.Decode.{aLeaf, aJoin, meaning, cellAt};
-ghost use Rattle.stores.specs.Stores.{Laid};
-ghost use Rattle.decide.specs.Evict.{leafSays, joinSays, yeses, evict};
-ghost use Rattle.decide.specs.Decide.{decideOf};
 ghost use Rattle.image.specs.Standing.{Stands};
-ghost use Rattle.decide.specs.Subtree.{Inside, worldIn};
+ghost use Rattle.decide.specs.Evict.{World, leafSays, joinSays, yeses, evict};
+ghost use Rattle.decide.specs.Decide.{decideOf};
+ghost use Rattle.decide.specs.Subtree.{Inside, Known, Said, worldIn};
 use image::le2;
 use image::valid::is_image;
 use image::valid::name_of;
 use image::valid::node_at;
 use refusals::Refusal;
 use stores::Twin;
-use stores::count_of;
-use stores::is_among;
-use stores::ready_count;
-use stores::twin_of;
+use stores::confirmed::is_confirmed;
+use stores::confirmed::mark_confirmed;
+use stores::confirmed::ready_count;
+use stores::index::twin_of;
 use stores::well_made;
 
 // What deciding answers.
@@ -31,13 +30,10 @@ pub enum Decision {
     Refused(Refusal),
 }
 
-// What a decision looks at beside the list: the age, how many readable stores are confirmed, and the modes of the entries of the
-// list that count.
+// What a decision looks at beside the list: the age, and how many readable stores are confirmed.
 pub struct View {
     pub age: u64,
     pub ready: u64,
-    pub lo: u8,
-    pub hi: u8,
 }
 
 fn refuse(number: u8, place: usize) -> Decision
@@ -47,19 +43,68 @@ fn refuse(number: u8, place: usize) -> Decision
 }
 
 // What a leaf says: kinds 0 to 2, each by its own line.
-fn leaf_says(image: &[u8], n: usize, kind: u64, arg: u64, list: &[u8], view: View) -> bool
-    requires { ⌜ (kind ≡ 0 → 4 + 12 * n + arg / 65536 + arg % 65536 ≤ length (now image)) × Laid (now list) ⌝ }
+fn leaf_says(
+    image: &[u8],
+    n: usize,
+    kind: u64,
+    arg: u64,
+    stores: &[u8],
+    list: &[u8],
+    view: View,
+    starts: &[u16; 64],
+    slots: &[u8; 512],
+    marks: &[u8; 64],
+) -> bool
+    requires { ⌜ (kind ≡ 0 → 4 + 12 * n + arg / 65536 + arg % 65536 ≤ length (now image)) × Known (now stores) (now list) (now starts) (now slots) (now marks) ⌝ }
     ensures { λ r. ⌜ ((l : Leaf) → meaning (now (image .entry)) n kind arg ≡ aLeaf l → r ≡ leafSays l (worldIn (now (list .entry)) view)) ⌝ }
 {
     match kind {
-        0 => {
-            let lo = view.lo;
-            let hi = view.hi;
-            is_among(name_of(image, n, arg), list, count_of(list), lo, hi)
-        }
+        0 => is_confirmed(name_of(image, n, arg), stores, list, starts, slots, marks),
         1 => arg <= view.age,
         2 => arg <= view.ready,
         _ => false,
+    }
+}
+
+// Writes for each leaf of an image whether it says evict: 1 or 0.
+fn say_leaves(
+    image: &[u8],
+    n: usize,
+    stores: &[u8],
+    list: &[u8],
+    view: View,
+    starts: &[u16; 64],
+    slots: &[u8; 512],
+    marks: &[u8; 64],
+    says: &mut [u8],
+)
+    requires { ⌜ Inside (now image) n 0 n × ((n ≤ length (now says)) × Known (now stores) (now list) (now starts) (now slots) (now marks)) ⌝ }
+    ensures { λ _. ⌜ Said (now (image .entry)) n (now (says .exit)) 1 (worldIn (now (list .entry)) view) ⌝ }
+{
+    let mut i = 0;
+    while i < n {
+        let node = node_at(image, n, i);
+        let kind = node.kind;
+        let arg = node.arg;
+        if kind < 3 {
+            if leaf_says(
+                image,
+                n,
+                kind,
+                arg,
+                stores,
+                list,
+                view,
+                starts,
+                slots,
+                marks,
+            ) {
+                says[i] = 1;
+            } else {
+                says[i] = 0;
+            }
+        }
+        i += 1;
     }
 }
 
@@ -75,17 +120,18 @@ fn join_says(kind: u64, arg: u64, yes: u64, total: u64) -> bool
     }
 }
 
-// What the rule says whose nodes are the `size` from `from` on: the size falls at each call.
-pub fn evaluate(image: &[u8], n: usize, from: usize, size: usize, list: &[u8], view: View) -> bool
-    requires { ⌜ Inside (now image) n from size × Laid (now list) ⌝ }
-    ensures { λ r. ⌜ ((ρ : Rule) → sizeOf ρ ≡ size → Stands ρ (cellAt (now (image .entry)) n) from → r ≡ evict ρ (worldIn (now (list .entry)) view)) ⌝ }
+// What the rule says whose nodes are the `size` from `from` on, where a leaf says evict if its number is at least `least`: the
+// size falls at each call, and leaves need none.
+pub fn evaluate(image: &[u8], n: usize, from: usize, size: usize, says: &[u8], least: u8) -> bool
+    requires { ⌜ Inside (now image) n from size × (n ≤ length (now says)) ⌝ }
+    ensures { λ r. ⌜ ((ρ : Rule) (w : World) → sizeOf ρ ≡ size → Stands ρ (cellAt (now (image .entry)) n) from → Said (now (image .entry)) n (now (says .entry)) least w → r ≡ evict ρ w) ⌝ }
 {
     let at = from + size - 1;
     let root = node_at(image, n, at);
     let kind = root.kind;
     let arg = root.arg;
     match kind {
-        0..=2 => leaf_says(image, n, kind, arg, list, view),
+        0..=2 => least <= says[at],
         3..=5 => {
             let mut end = at;
             let mut yes: u64 = 0;
@@ -94,8 +140,14 @@ pub fn evaluate(image: &[u8], n: usize, from: usize, size: usize, list: &[u8], v
                 let child = node_at(image, n, end - 1);
                 let back = child.size;
                 end -= back;
-                if evaluate(image, n, end, back, list, view) {
-                    yes += 1;
+                if back == 1 {
+                    if least <= says[end] {
+                        yes += 1;
+                    }
+                } else {
+                    if evaluate(image, n, end, back, says, least) {
+                        yes += 1;
+                    }
                 }
                 total += 1;
             }
@@ -103,6 +155,84 @@ pub fn evaluate(image: &[u8], n: usize, from: usize, size: usize, list: &[u8], v
         }
         _ => false,
     }
+}
+
+// What the rule of an image of at most 64 nodes says.
+fn rule_says_64(
+    image: &[u8],
+    n: usize,
+    stores: &[u8],
+    list: &[u8],
+    view: View,
+    starts: &[u16; 64],
+    slots: &[u8; 512],
+    marks: &[u8; 64],
+) -> bool
+    requires { ⌜ Inside (now image) n 0 n × ((n ≤ 64) × Known (now stores) (now list) (now starts) (now slots) (now marks)) ⌝ }
+    ensures { λ r. ⌜ ((ρ : Rule) → sizeOf ρ ≡ n → Stands ρ (cellAt (now (image .entry)) n) 0 → r ≡ evict ρ (worldIn (now (list .entry)) view)) ⌝ }
+{
+    let mut says = [0u8; 64];
+    say_leaves(
+        image,
+        n,
+        stores,
+        list,
+        view,
+        starts,
+        slots,
+        marks,
+        &mut says,
+    );
+    evaluate(image, n, 0, n, &says, 1)
+}
+
+// Of at most 2,048.
+fn rule_says_2048(
+    image: &[u8],
+    n: usize,
+    stores: &[u8],
+    list: &[u8],
+    view: View,
+    starts: &[u16; 64],
+    slots: &[u8; 512],
+    marks: &[u8; 64],
+) -> bool
+    requires { ⌜ Inside (now image) n 0 n × ((n ≤ 2048) × Known (now stores) (now list) (now starts) (now slots) (now marks)) ⌝ }
+    ensures { λ r. ⌜ ((ρ : Rule) → sizeOf ρ ≡ n → Stands ρ (cellAt (now (image .entry)) n) 0 → r ≡ evict ρ (worldIn (now (list .entry)) view)) ⌝ }
+{
+    let mut says = [0u8; 2048];
+    say_leaves(
+        image,
+        n,
+        stores,
+        list,
+        view,
+        starts,
+        slots,
+        marks,
+        &mut says,
+    );
+    evaluate(image, n, 0, n, &says, 1)
+}
+
+// What the rule of an image says.
+fn rule_says(
+    image: &[u8],
+    n: usize,
+    stores: &[u8],
+    list: &[u8],
+    view: View,
+    starts: &[u16; 64],
+    slots: &[u8; 512],
+    marks: &[u8; 64],
+) -> bool
+    requires { ⌜ Inside (now image) n 0 n × ((n ≤ 2048) × Known (now stores) (now list) (now starts) (now slots) (now marks)) ⌝ }
+    ensures { λ r. ⌜ ((ρ : Rule) → sizeOf ρ ≡ n → Stands ρ (cellAt (now (image .entry)) n) 0 → r ≡ evict ρ (worldIn (now (list .entry)) view)) ⌝ }
+{
+    if n <= 64 {
+        return rule_says_64(image, n, stores, list, view, starts, slots, marks);
+    }
+    rule_says_2048(image, n, stores, list, view, starts, slots, marks)
 }
 
 // Decides on the rule of an image: evict or keep, or the first of the refusals 16 to 19.
@@ -115,21 +245,22 @@ pub fn decide(image: &[u8], stores: &[u8], age: u64, list: &[u8]) -> Decision
     if !well_made(stores, 2) {
         return refuse(refusals::BAD_STORE_TABLE, 0);
     }
-    if let Twin::At(i) = twin_of(stores) {
+    let mut starts = [0u16; 64];
+    let mut slots = [0u8; 512];
+    if let Twin::At(i) = twin_of(stores, &mut starts, &mut slots) {
         return refuse(refusals::TWIN_NAME, i);
     }
     if !well_made(list, 0) {
         return refuse(refusals::BAD_CONFIRMED_LIST, 0);
     }
+    let mut marks = [0u8; 64];
+    mark_confirmed(stores, list, &starts, &slots, &mut marks);
     let n = le2(image, 0) as usize;
-    let ready = ready_count(stores, list, 0, 0);
     let view = View {
         age,
-        ready,
-        lo: 0,
-        hi: 0,
+        ready: ready_count(stores, &marks),
     };
-    if evaluate(image, n, 0, n, list, view) {
+    if rule_says(image, n, stores, list, view, &starts, &slots, &marks) {
         Decision::Evict
     } else {
         Decision::Keep

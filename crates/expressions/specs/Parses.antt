@@ -7,11 +7,12 @@ use mathlib.Core.List.{List, _++_}
 use lib.ListN.{length, take}
 use Rattle.classes.specs.Class.{faults}
 use Rattle.refusals.specs.declared.Refusal.{Refusal}
-use Rattle.words.specs.Token.{tokensFrom}
+use Rattle.words.specs.Token.{tokensFrom, scanOf}
+use Rattle.words.specs.declared.Scanned.the-variants.{Clean}
 use Rattle.image.specs.Rule.{Rule, size}
 use Rattle.image.specs.Encode as image
 use Rattle.grammar.specs.Grammar.{Got, got, bad}
-use Rattle.grammar.specs.Reading.{rule, refused as unread, readOf}
+use Rattle.grammar.specs.Reading.{Read as Meaning, rule, refused as unread, parseOf, readOf}
 use Rattle.grammar.specs.Heads.{left}
 use Rattle.expressions.specs.declared.parse.Reach.{Reach}
 use Rattle.expressions.specs.declared.parse.Reach.the-variants.{Done, Refused}
@@ -82,10 +83,10 @@ pub record Ready (class s : List ℕ) (b : Arrays) : Type 0 where
   pub few : length (b .tags) ≤ 2048
   pub long : Long (length (b .tags)) b
 
--- the text reads as a rule, whose n nodes and m name bytes stand in the arrays
-pub record Whole (s : List ℕ) (a : Arrays) (n m : ℕ) : Type 0 where
+-- x, which the text is read as, is a rule, whose n nodes and m name bytes stand in the arrays
+pub record Whole (x : Meaning) (s : List ℕ) (a : Arrays) (n m : ℕ) : Type 0 where
   pub tree : Rule
-  pub says : readOf s ≡ rule tree
+  pub says : x ≡ rule tree
   pub tags : take n (a .tags) ≡ image.tags tree
   pub args : take n (a .args) ≡ image.args tree 0
   pub names : take m (a .names) ≡ image.names tree
@@ -94,6 +95,15 @@ pub record Whole (s : List ℕ) (a : Arrays) (n m : ℕ) : Type 0 where
   pub few : n ≤ length s
   pub short : m ≤ length s
 
-pub record Finished (s : List ℕ) (a : Arrays) (r : Reach) : Type 0 where
-  pub done : (e n m : ℕ) → r ≡ Done e n m → Whole s a n m
-  pub refused : (x : Refusal) → r ≡ Refused x → readOf s ≡ unread x
+-- either case of an answer: W of the numbers of nodes and name bytes, or x is the refusal
+pub record Answered (W : ℕ → ℕ → Type 0) (x : Meaning) (r : Reach) : Type 0 where
+  pub done : (e n m : ℕ) → r ≡ Done e n m → W n m
+  pub refused : (f : Refusal) → r ≡ Refused f → x ≡ unread f
+
+-- the text was parsed, and no token of it is a fault where it parses as a rule
+abbrev pub Ended : List ℕ → Arrays → Reach → Type 0
+Ended s a r = Answered (λ n m. (scanOf (tokensFrom s 0) ≡ Clean) × Whole (parseOf s) s a n m) (parseOf s) r
+
+-- the text was read
+abbrev pub Finished : List ℕ → Arrays → Reach → Type 0
+Finished s a r = Answered (Whole (readOf s) s a) (readOf s) r

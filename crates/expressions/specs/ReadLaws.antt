@@ -1,19 +1,22 @@
 -- Laws of reading a whole text: which test refuses it, and what stands in the arrays and the buffer where it reads as a rule.
 -- Assumes nothing.
-use mathlib.Core.Path.{_≡_, refl, sym, ap, _∙_}
+use mathlib.Core.Path.{_≡_, refl, ap, _∙_}
+use mathlib.Core.Bool.{cond}
 use mathlib.Core.List.{List, _++_}
 use Prim.Native.Nat.{ℕ, _+_, _*_, _≤_, _<_}
 use native.Mathlib.Omega.{arith}
-use borrow.Author.Tests.{lt-ltb, le-ltb, eq-eqb, ne-eqb}
+use borrow.Author.Tests.{lt-ltb, le-ltb, ne-eqb}
 use lib.Dec.{eqb}
 use lib.ListN.{length, take, drop}
 use Rattle.ascii.specs.Text.{runEnd}
 use Rattle.refusals.specs.declared.Refusal.{Refusal}
 use Rattle.refusals.specs.Refusals.{refusal, shortBuffer, longText, foreignByte, trailingToken}
 use Rattle.words.specs.declared.Token.{Token}
+use Rattle.words.specs.declared.Token.the-variants.{End}
 use Rattle.words.specs.declared.Next.{Next}
 use Rattle.words.specs.declared.Next.the-variants.{Off, To}
-use Rattle.words.specs.declared.Scanned.the-variants.{Clean, Refused}
+use Rattle.words.specs.declared.Scanned.{Scanned}
+use Rattle.words.specs.declared.Scanned.the-variants.{Clean}
 use Rattle.words.specs.Token.{ascii, placeOf, nextOf, tokenAt, onward, tokensFrom, scanOf}
 use Rattle.words.specs.TokenLaws.{tokens-are}
 use Rattle.ascii.specs.Written.{written}
@@ -21,45 +24,49 @@ use Rattle.ascii.specs.WrittenLaws.{written-front}
 use Rattle.image.specs.Encode.{tags, args, names, imageOf, encode}
 use Rattle.image.specs.EncodeLaws.{length-tags, length-encode}
 use Rattle.grammar.specs.Grammar.{tokenKind, Got, got, bad, orIn}
-use Rattle.grammar.specs.Reading.{Read, refused, atEnd, ended, parseOf, readOf}
+use Rattle.grammar.specs.Reading.{Read, rule, refused, atEnd, ended, parseOf, scannedOf, readOf}
 use Rattle.expressions.specs.Outcome.{outcome, readingOf, readInto}
 use Rattle.grammar.specs.Heads.{left}
 use Rattle.grammar.specs.TokenListLaws.{first-place}
+use Rattle.grammar.specs.CleanLaws.{read-clean}
 use Rattle.expressions.specs.Parses as parses
-use Rattle.expressions.specs.Parses.{Arrays, Whole, Finished}
+use Rattle.expressions.specs.Parses.{Arrays, Whole, Answered, Ended, Finished}
 use Rattle.expressions.specs.declared.parse.Reach.{Reach}
 use Rattle.expressions.specs.declared.parse.Reach.the-variants.{Done, Refused as Failed}
-use Rattle.expressions.specs.declared.Reading.{Reading}
 use Rattle.expressions.specs.declared.Reading.the-variants.{Read as Written, Refused as Unread}
 
 -- ---- an answer, by its case
-module _ {s : List ℕ} {a : Arrays} where
-  pub finished-done : {e n m : ℕ} → Whole s a n m → Finished s a (Done e n m)
-  finished-done {e} {n} {m} w = record {
+module _ {W : ℕ → ℕ → Type 0} {x : Read} where
+  pub answered-done : {e n m : ℕ} → W n m → Answered W x (Done e n m)
+  answered-done {e} {n} {m} w = record {
     done = λ e′ n′ m′ q. let qn : n ≡ n′ = cc in let qm : m ≡ m′ = cc in rw (← qn, ← qm) w;
-    refused = λ x q. let z : _≡_ {A = ℕ} 0 1 = cc in absurd (omega arith);
+    refused = λ f q. let z : _≡_ {A = ℕ} 0 1 = cc in absurd (omega arith);
   }
 
-  pub finished-refused : {r : Reach} {x : Refusal} → r ≡ Failed x → readOf s ≡ refused x → Finished s a r
-  finished-refused {r} {x} h e = record {
+  pub answered-refused : {r : Reach} {f : Refusal} → r ≡ Failed f → x ≡ refused f → Answered W x r
+  answered-refused {r} {f} h e = record {
     done = λ e′ n m q. let z : _≡_ {A = ℕ} 0 1 = cc in absurd (omega arith);
-    refused = λ y q. let qx : x ≡ y = cc in rw (← qx) e;
+    refused = λ g q. let qf : f ≡ g = cc in rw (← qf) e;
   }
+
+-- what was parsed is what the text reads as, where no test before refuses it
+pub finished-ended : {s : List ℕ} {a : Arrays} {r : Reach} → readOf s ≡ parseOf s → Ended s a r → Finished s a r
+finished-ended q p = record { done = λ e n m h. rw q (p .done e n m h .1); refused = λ f h. q ∙ p .refused f h }
 
 -- ---- the tests before the parse
+pub read-long : (s : List ℕ) → 2048 < length s → readOf s ≡ refused (refusal longText 0)
+unfolding readOf
+read-long s h = rw (lt-ltb 2048 (length s) h)
+
 module _ (s : List ℕ) (fits : length s ≤ 2048) where
   pub read-foreign : {p : ℕ} → p ≡ runEnd ascii s 0 → p < length s → readOf s ≡ refused (refusal foreignByte p)
   unfolding readOf
   read-foreign q lt = rw (le-ltb 2048 (length s) fits, ← q, lt-ltb _ _ lt)
 
   module _ {p : ℕ} (q : p ≡ runEnd ascii s 0) (le : length s ≤ p) where
-    pub read-fault : {x : Refusal} → scanOf (tokensFrom s 0) ≡ Refused x → readOf s ≡ refused x
+    pub read-scanned : {x : Scanned} → scanOf (tokensFrom s 0) ≡ x → readOf s ≡ scannedOf x s
     unfolding readOf
-    read-fault e = rw (le-ltb 2048 (length s) fits, ← q, le-ltb _ _ le, e)
-
-    pub read-parse : scanOf (tokensFrom s 0) ≡ Clean → readOf s ≡ parseOf s
-    unfolding readOf
-    read-parse e = rw (le-ltb 2048 (length s) fits, ← q, le-ltb _ _ le, e)
+    read-scanned e = rw (le-ltb 2048 (length s) fits, ← q, le-ltb _ _ le, e)
 
 -- ---- the parse
 module _ (s : List ℕ) where
@@ -74,57 +81,52 @@ module _ (s : List ℕ) where
   end-onward t Off more = refl
   end-onward t (To n) more = refl
 
-  module _ {b a : Arrays} {e n m : ℕ} (r : parses.Read (λ (f : ℕ). orIn f s 0 (tokensFrom s 0)) (3 * left s 0 + 3) s 0 0 0 b a e n m) {t : Token} (at-e : tokenAt s e ≡ t) where
-    ends : atEnd (tokensFrom s e) ≡ eqb (tokenKind t) 0
-    ends = ap atEnd (tokens-are s e at-e) ∙ end-onward t (nextOf t) (tokensFrom s)
+  module _ {b a : Arrays} {e n m : ℕ} (r : parses.Read (λ (f : ℕ). orIn f s 0 (tokensFrom s 0)) (3 * left s 0 + 3) s 0 0 0 b a e n m) where
+    ended-at : {t : Token} → tokenAt s e ≡ t → parseOf s ≡ cond (eqb (tokenKind t) 0) (rule (r .tree)) (refused (refusal trailingToken (placeOf t)))
+    ended-at {t} h =
+        parsed-as (got (r .tree) (tokensFrom s e)) (r .says)
+        ∙ rw (tokens-are s e h, end-onward t (nextOf t) (tokensFrom s), ← tokens-are s e h, first-place s e h)
 
-    pub parse-trailing : {p : ℕ} → (tokenKind t ≡ 0 → ⊥) → p ≡ placeOf t → parseOf s ≡ refused (refusal trailingToken p)
-    parse-trailing h q = parsed-as (got (r .tree) (tokensFrom s e)) (r .says) ∙ rw (ends, ne-eqb _ _ h, first-place s e at-e, q)
+    pub parse-trailing : {t : Token} {p : ℕ} → tokenAt s e ≡ t → (tokenKind t ≡ 0 → ⊥) → p ≡ placeOf t → parseOf s ≡ refused (refusal trailingToken p)
+    parse-trailing h k q = ended-at h ∙ rw (ne-eqb _ _ k, q)
 
-    pub parse-whole : tokenKind t ≡ 0 → readOf s ≡ parseOf s → Whole s a n m
-    parse-whole h whole =
-        let o = r .holds in
-        record {
-          tree = r .tree;
-          says = whole ∙ parsed-as (got (r .tree) (tokensFrom s e)) (r .says) ∙ rw (ends, eq-eqb _ _ h);
-          tags = o .tags;
-          args = o .args;
-          names = o .names;
-          nodes = omega (arith, o .more-tags, length-tags (r .tree));
-          bytes = omega (arith, o .more-names);
-          few = omega (arith, r .room, r .within);
-          short = omega (arith, r .width, r .within);
-        }
+    pub parse-whole : {p : ℕ} → tokenAt s e ≡ End p → (scanOf (tokensFrom s 0) ≡ Clean) × Whole (parseOf s) s a n m
+    parse-whole h =
+        let f = 3 * left s 0 + 3 in
+        let o = r .holds in (
+          read-clean s f e (r .says f (omega arith)) h,
+          record {
+            tree = r .tree;
+            says = ended-at h;
+            tags = o .tags;
+            args = o .args;
+            names = o .names;
+            nodes = omega (arith, o .more-tags, length-tags (r .tree));
+            bytes = omega (arith, o .more-names);
+            few = omega (arith, r .room, r .within);
+            short = omega (arith, r .width, r .within);
+          },
+        )
 
 -- ---- the buffer
 module _ (s i : List ℕ) where
-  abbrev Says : Reading → List ℕ → Type 0
-  Says r i′ = outcome r i′ ≡ readInto s i
-
-  pub says-short : length i < 26_628 → Says (Unread (refusal shortBuffer 0)) i
+  pub says-short : length i < 26_628 → outcome (Unread (refusal shortBuffer 0)) i ≡ readInto s i
   unfolding readInto
   says-short h = rw (lt-ltb _ _ h)
 
-  module _ (room : 26_628 ≤ length i) where
-    pub reads : {x : Read} → readOf s ≡ x → readInto s i ≡ readingOf x i
-    unfolding readInto
-    reads e = rw (le-ltb _ _ room, e)
+  pub reads : 26_628 ≤ length i → {x : Read} → readOf s ≡ x → readInto s i ≡ readingOf x i
+  unfolding readInto
+  reads room e = rw (le-ltb _ _ room, e)
 
-    pub says-refused : {x : Refusal} → readOf s ≡ refused x → Says (Unread x) i
-    says-refused e = sym (reads e)
+module _ {x : Read} {s : List ℕ} {a : Arrays} {n m : ℕ} (w : Whole x s a n m) where
+  -- the arrays' image is the rule's
+  image-is : imageOf n (take n (a .tags)) (take n (a .args)) (take m (a .names)) ≡ encode (w .tree)
+  unfolding encode
+  image-is = rw (w .tags, w .args, w .names, w .nodes)
 
-    pub says-long : 2048 < length s → Says (Unread (refusal longText 0)) i
-    unfolding readOf
-    says-long h = says-refused (rw (lt-ltb 2048 (length s) h))
-
-    -- the arrays' image is the rule's
-    image-is : {a : Arrays} {n m : ℕ} (w : Whole s a n m) → imageOf n (take n (a .tags)) (take n (a .args)) (take m (a .names)) ≡ encode (w .tree)
-    unfolding encode
-    image-is w = rw (w .tags, w .args, w .names, w .nodes)
-
-    pub says-rule : {a : Arrays} {n m len : ℕ} {i′ : List ℕ} → Whole s a n m → len ≡ 4 + 12 * n + m → i′ ≡ written i 0 (imageOf n (take n (a .tags)) (take n (a .args)) (take m (a .names))) → Says (Written len) i′
-    says-rule {len = len} {i′ = i′} w q e =
-        let r = w .tree in
-        let long : len ≡ length (encode r) = omega (arith, length-encode r, w .nodes, w .bytes) in
-        let left : i′ ≡ encode r ++ drop (length (encode r)) i = e ∙ ap (written i 0) (image-is w) ∙ written-front i (encode r) in
-        ap (λ (x : ℕ). outcome (Written x) i′) long ∙ ap (outcome (Written (length (encode r)))) left ∙ sym (reads (w .says))
+  pub says-rule : (i : List ℕ) {i′ : List ℕ} {len : ℕ} → len ≡ 4 + 12 * n + m → i′ ≡ written i 0 (imageOf n (take n (a .tags)) (take n (a .args)) (take m (a .names))) → outcome (Written len) i′ ≡ readingOf x i
+  says-rule i {i′} {len} q e =
+      let r = w .tree in
+      let long : len ≡ length (encode r) = omega (arith, length-encode r, w .nodes, w .bytes) in
+      let left : i′ ≡ encode r ++ drop (length (encode r)) i = e ∙ ap (written i 0) image-is ∙ written-front i (encode r) in
+      rw (long, left, w .says)

@@ -19,8 +19,11 @@ use grammar::head_at;
 use grammar::test_arg;
 use grammar::test_kind;
 use refusals::Refusal;
+use words::Next;
 use words::Token;
+use words::bracket_at;
 use words::place_of;
+use words::sign_at;
 use words::token_at;
 
 // Where the text goes on, and how many nodes and name bytes stand; or a refusal.
@@ -94,7 +97,7 @@ pub fn parse_or(
     let mut n1 = k;
     let mut m1 = q;
     loop {
-        let Token::Or { place: _, next } = token_at(text, at1, class) else {
+        let Next::To(next) = sign_at(text, at1, classes::BAR, class) else {
             return Reach::Done {
                 next: at1,
                 n: n1,
@@ -146,7 +149,7 @@ pub fn parse_and(
     let mut n1 = k;
     let mut m1 = q;
     loop {
-        let Token::And { place: _, next } = token_at(text, at1, class) else {
+        let Next::To(next) = sign_at(text, at1, classes::AMPERSAND, class) else {
             return Reach::Done {
                 next: at1,
                 n: n1,
@@ -236,7 +239,7 @@ pub fn parse_primary(
             place,
             next,
         } => {
-            if let Token::Close { place: _, next: _ } = token_at(text, next, class) {
+            if let Next::To(_) = bracket_at(text, next, classes::CLOSE, class) {
                 return refuse(refusals::EMPTY_LIST, place);
             }
             let mut at1 = next;

@@ -41,7 +41,7 @@ use Rattle.grammar.specs.Grammar.{
 }
 use Rattle.grammar.specs.Reading.{ended, parseOf}
 use Rattle.grammar.specs.Rules.{headRest, leftOf, orOf, andOf, primaryOf, orRest, andRest, listRest}
-use Rattle.grammar.specs.TakenLaws.{by-after, on-rest, Begun, head-begun, MadeRule, Holds, or-made, and-made, primary-made}
+use Rattle.grammar.specs.TakenLaws.{Sign, by-after, on-rest, Begun, head-begun, MadeRule, Holds, or-made, and-made, primary-made}
 
 -- ---- fewer tokens are left
 rest-fewer : (vs : List Token) {us : List Token} {n : ℕ} → length vs < n → rest vs ≡ rest us → length us < n
@@ -78,7 +78,7 @@ module _ (s : List ℕ) where
   primary-fewer f d ts e = made-fewer s ts (primaryIn f s d ts) (primary-made s f d ts) e
 
   -- a chain's operand leaves at most these, and so does what goes on behind it
-  turn-left : (k : ℕ) (j : Join) (operand : List Token → Got) (again : Got → Got) → 0 < k → ((vs : List Token) → Holds (MadeRule s vs) (operand vs)) → ((g : Got) → leftOf (again g) ≤ leftOf g) → (l : Rule) (us : List Token) → leftOf (onRest (after k us) (λ vs. again (onto j l (operand vs))) (got l us)) ≤ length us
+  turn-left : (k : ℕ) (j : Join) (operand : List Token → Got) (again : Got → Got) → Sign k → ((vs : List Token) → Holds (MadeRule s vs) (operand vs)) → ((g : Got) → leftOf (again g) ≤ leftOf g) → (l : Rule) (us : List Token) → leftOf (onRest (after k us) (λ vs. again (onto j l (operand vs))) (got l us)) ≤ length us
   turn-left k j operand again p m h l us =
       on-rest (λ g. leftOf g ≤ length us) k us _ (got l us) p
       (λ vs t. omega (arith, h (onto j l (operand vs)), onto-left j l (operand vs), made-left s vs (operand vs) (m vs)))
@@ -112,7 +112,7 @@ head-same (aGroup us) i i′ l l′ p q = ap closeAfter (p us refl)
 head-same (aList j place us) i i′ l l′ p q = ap (onRest (after closeSign us) _) (q j us refl)
 head-same (refused f) i i′ l l′ p q = refl
 
-rest-same : (k : ℕ) (us : List Token) (x y : List Token → Got) (o : Got) → 0 < k → ((vs : List Token) → length vs < length us → x vs ≡ y vs) → onRest (after k us) x o ≡ onRest (after k us) y o
+rest-same : (k : ℕ) (us : List Token) (x y : List Token → Got) (o : Got) → Sign k → ((vs : List Token) → length vs < length us → x vs ≡ y vs) → onRest (after k us) x o ≡ onRest (after k us) y o
 rest-same k us x y o p h = by-after (λ r. onRest r x o ≡ onRest r y o) k us p refl (λ vs t. h vs (t .fewer))
 
 module _ (s : List ℕ) where
@@ -121,7 +121,7 @@ module _ (s : List ℕ) where
   then-same ts x y a b m e q = q x (made-left s ts x m) ∙ ap b e
 
   -- a chain's turn
-  turn-same : (k : ℕ) (j : Join) (x y : List Token → Got) (a b : Got → Got) → 0 < k → ((vs : List Token) → Holds (MadeRule s vs) (x vs)) → (l : Rule) (us : List Token) → ((vs : List Token) → length vs < length us → x vs ≡ y vs) → ((g : Got) → leftOf g < length us → a g ≡ b g) → onRest (after k us) (λ vs. a (onto j l (x vs))) (got l us) ≡ onRest (after k us) (λ vs. b (onto j l (y vs))) (got l us)
+  turn-same : (k : ℕ) (j : Join) (x y : List Token → Got) (a b : Got → Got) → Sign k → ((vs : List Token) → Holds (MadeRule s vs) (x vs)) → (l : Rule) (us : List Token) → ((vs : List Token) → length vs < length us → x vs ≡ y vs) → ((g : Got) → leftOf g < length us → a g ≡ b g) → onRest (after k us) (λ vs. a (onto j l (x vs))) (got l us) ≡ onRest (after k us) (λ vs. b (onto j l (y vs))) (got l us)
   turn-same k j x y a b p m l us e q =
       rest-same k us _ _ (got l us) p
       (λ vs t. then-same vs (x vs) (y vs) (λ g. a (onto j l g)) (λ g. b (onto j l g)) (m vs) (e vs t) (λ g i. q (onto j l g) (omega (arith, onto-left j l g))))

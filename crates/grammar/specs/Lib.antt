@@ -8,5 +8,7 @@ pub mod SmallLaws
 pub mod FitsLaws
 pub mod Heads
 pub mod TokenListLaws
+pub mod BehindLaws
 pub mod HeadLaws
 pub mod NumberLaws
+pub mod CleanLaws

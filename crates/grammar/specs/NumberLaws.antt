@@ -42,7 +42,7 @@ use Rattle.grammar.specs.Grammar.{
 }
 use Rattle.grammar.specs.Reading.{Read, rule, refused, atEnd, ended, parseOf, scannedOf, readOf}
 use Rattle.grammar.specs.Rules.{leftOf}
-use Rattle.grammar.specs.TakenLaws.{Numbered, Begun, head-begun, MadeRule, Holds, on-rest, or-made, and-made, primary-made}
+use Rattle.grammar.specs.TakenLaws.{Sign, Numbered, Begun, head-begun, MadeRule, Holds, on-rest, or-made, and-made, primary-made}
 use Rattle.grammar.specs.GrammarLaws.{made-left, onto-left}
 
 -- ---- an expression
@@ -70,7 +70,7 @@ module _ (s : List ℕ) where
   head-number ts (grammar.refused f) inner list b i e = b
 
   -- a chain's turn
-  turn-number : (k : ℕ) (j : Join) (x : List Token → Got) (a : Got → Got) → 0 < k → ((vs : List Token) → Holds (MadeRule s vs) (x vs)) → (l : Rule) (us : List Token) → ((vs : List Token) → length vs < length us → GotOr (x vs)) → ((g : Got) → leftOf g < length us → GotOr g → GotOr (a g)) → GotOr (onRest (after k us) (λ vs. a (onto j l (x vs))) (got l us))
+  turn-number : (k : ℕ) (j : Join) (x : List Token → Got) (a : Got → Got) → Sign k → ((vs : List Token) → Holds (MadeRule s vs) (x vs)) → (l : Rule) (us : List Token) → ((vs : List Token) → length vs < length us → GotOr (x vs)) → ((g : Got) → leftOf g < length us → GotOr g → GotOr (a g)) → GotOr (onRest (after k us) (λ vs. a (onto j l (x vs))) (got l us))
   turn-number k j x a p m l us e q =
       on-rest GotOr k us _ (got l us) p
       (λ vs t. q (onto j l (x vs)) (omega (arith, onto-left j l (x vs), made-left s vs (x vs) (m vs))) (onto-number j l (x vs) (e vs (t .fewer))))

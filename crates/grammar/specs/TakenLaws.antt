@@ -1,6 +1,6 @@
--- What the grammar takes of a list of tokens: fewer are left, each node of the rule had a token of its own that is not the end,
--- each byte of its names stands in a word, and 8 bytes hold its numbers. A primary that does not begin is refused with a number
--- among 2 to 15. Assumes nothing.
+-- What the grammar takes of a list of tokens: no fault, fewer are left, each node of the rule had a token of its own that is not
+-- the end, each byte of its names stands in a word, and 8 bytes hold its numbers. A primary that does not begin is refused with a
+-- number among 2 to 15. Assumes nothing.
 use mathlib.Core.Path.{_≡_, refl}
 use mathlib.Core.Bool.{Bool, true, false, cond}
 use mathlib.Core.List.{List, [], _∷_, _++_}
@@ -96,9 +96,15 @@ abbrev pub bytesFor : List Token → ℕ
 bytesFor [] = 0
 bytesFor (t ∷ ts) = wordLength t + bytesFor ts
 
--- tokens were taken off ts until us were left, and paid for x nodes with y bytes of names
+-- the faults among tokens
+abbrev pub faultsIn : List Token → ℕ
+faultsIn [] = 0
+faultsIn (t ∷ ts) = tokenKind t - 6 + faultsIn ts
+
+-- tokens were taken off ts until us were left, no fault among them, and paid for x nodes with y bytes of names
 pub record Taken (ts us : List Token) (x y : ℕ) : Type 0 where
   pub fewer : length us < length ts
+  pub clean : faultsIn ts ≡ faultsIn us
   pub nodes : x + nodesFor us ≤ nodesFor ts
   pub bytes : y + bytesFor us ≤ bytesFor ts
 
@@ -109,7 +115,11 @@ pub record Made (s : List ℕ) (ts us : List Token) (x : ℕ) (ws : List ℕ) (S
   pub small : length s < 2 ^ 64 → S
 
 -- ---- a sign
-after-taken : (k : ℕ) (ts : List Token) {us : List Token} → 0 < k → after k ts ≡ rest us → Taken ts us 1 0
+-- the kind of a bracket, a comma or a sign
+abbrev pub Sign : ℕ → Type 0
+Sign k = (0 < k) × (k < 6)
+
+after-taken : (k : ℕ) (ts : List Token) {us : List Token} → Sign k → after k ts ≡ rest us → Taken ts us 1 0
 unfolding after
 after-taken k [] {us} l e = let z : _≡_ {A = ℕ} 0 1 = cc in absurd (omega arith)
 after-taken k (t ∷ ts) {us} l e = go (eqb (tokenKind t) k) refl e
@@ -119,7 +129,7 @@ after-taken k (t ∷ ts) {us} l e = go (eqb (tokenKind t) k) refl e
     go false q i = let z : _≡_ {A = ℕ} 0 1 = cc in absurd (omega arith)
 
 -- either way of one that is looked for
-pub by-after : (P : Rest → Type 0) (k : ℕ) (ts : List Token) → 0 < k → P missing → ((us : List Token) → Taken ts us 1 0 → P (rest us)) → P (after k ts)
+pub by-after : (P : Rest → Type 0) (k : ℕ) (ts : List Token) → Sign k → P missing → ((us : List Token) → Taken ts us 1 0 → P (rest us)) → P (after k ts)
 by-after P k ts l m f = go (after k ts) refl
   where
     go : (r : Rest) → after k ts ≡ r → P r
@@ -281,7 +291,7 @@ abbrev pub Holds : (Rule → List Token → Type 0) → Got → Type 0
 Holds P (got r us) = P r us
 Holds P (bad f) = Unit {0}
 
-pub on-rest : (P : Got → Type 0) (k : ℕ) (ts : List Token) (then : List Token → Got) (other : Got) → 0 < k → ((us : List Token) → Taken ts us 1 0 → P (then us)) → P other → P (onRest (after k ts) then other)
+pub on-rest : (P : Got → Type 0) (k : ℕ) (ts : List Token) (then : List Token → Got) (other : Got) → Sign k → ((us : List Token) → Taken ts us 1 0 → P (then us)) → P other → P (onRest (after k ts) then other)
 on-rest P k ts then other l f g = by-after (λ r. P (onRest r then other)) k ts l g f
 
 module _ (s : List ℕ) where
@@ -294,7 +304,7 @@ module _ (s : List ℕ) where
   holds-onto j ts us vs l (got r xs) h m t n = chain-made j l r h m t n
   holds-onto j ts us vs l (bad f) h m t n = tt
 
-  holds-turn : (k : ℕ) (j : Join) (operand : List Token → Got) (again : Got → Got) → 0 < k → joinArg j < 2 ^ 64 → ((us : List Token) → Holds (MadeRule s us) (operand us)) → ((ts : List Token) (g : Got) → Holds (MadeRule s ts) g → Holds (MadeRule s ts) (again g)) → (ts us : List Token) (l : Rule) → MadeRule s ts l us → Holds (MadeRule s ts) (onRest (after k us) (λ vs. again (onto j l (operand vs))) (got l us))
+  holds-turn : (k : ℕ) (j : Join) (operand : List Token → Got) (again : Got → Got) → Sign k → joinArg j < 2 ^ 64 → ((us : List Token) → Holds (MadeRule s us) (operand us)) → ((ts : List Token) (g : Got) → Holds (MadeRule s ts) g → Holds (MadeRule s ts) (again g)) → (ts us : List Token) (l : Rule) → MadeRule s ts l us → Holds (MadeRule s ts) (onRest (after k us) (λ vs. again (onto j l (operand vs))) (got l us))
   holds-turn k j operand again p h e a ts us l m = on-rest (Holds (MadeRule s ts)) k us _ (got l us) p (λ vs t. a ts _ (holds-onto j ts us vs l (operand vs) h m t (e vs))) m
 
   -- an argument, the first and a later one

@@ -12,7 +12,7 @@ use Rattle.words.specs.declared.Next.{Next}
 use Rattle.words.specs.declared.Next.the-variants.{Off, To}
 use Rattle.words.specs.Token.{placeOf, nextOf, tokenAt, onward, tokensFrom, Lexed}
 use Rattle.words.specs.TokenLaws.{tokens-are, goes-on, left-on, lexed}
-use Rattle.grammar.specs.Grammar.{tokenKind, rest, missing, after, firstPlace, due, undue, dueBy, dueIn, andSign, orSign, commaSign, closeSign}
+use Rattle.grammar.specs.Grammar.{tokenKind, rest, missing, after, firstPlace, due, undue, dueBy, dueIn, commaSign, closeSign}
 use Rattle.grammar.specs.Heads.{left}
 
 -- the rest of the tokens, where the text goes on after the first
@@ -80,16 +80,8 @@ pub record Signed (s : List ℕ) (at k n : ℕ) : Type 0 where
   pub bounds : (at < n) × (n ≤ length s) × (left s n < left s at)
 
 module _ (s : List ℕ) (at : ℕ) where
-  signed : {t : Token} {n : ℕ} → tokenAt s at ≡ t → nextOf t ≡ To n → Signed s at (tokenKind t) n
+  pub signed : {t : Token} {n : ℕ} → tokenAt s at ≡ t → nextOf t ≡ To n → Signed s at (tokenKind t) n
   signed {t} e h = record { sign = after-on s at e h (tokenKind t) refl; bounds = steps s at e h }
-
-  pub and-signed : {p n : ℕ} → tokenAt s at ≡ And p n → Signed s at andSign n
-  unfolding nextOf
-  and-signed e = signed e refl
-
-  pub or-signed : {p n : ℕ} → tokenAt s at ≡ Or p n → Signed s at orSign n
-  unfolding nextOf
-  or-signed e = signed e refl
 
   pub comma-signed : {p n : ℕ} → tokenAt s at ≡ Comma p n → Signed s at commaSign n
   unfolding nextOf

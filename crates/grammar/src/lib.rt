@@ -14,7 +14,9 @@ use numbers::Parsed;
 use numbers::count::parse_count;
 use numbers::duration::parse_duration;
 use refusals::Refusal;
+use words::Next;
 use words::Token;
+use words::bracket_at;
 use words::place_of;
 use words::token_at;
 use words::word_of;
@@ -276,11 +278,7 @@ fn word_head(
     ensures { λ r. ⌜ Begins (now (text .entry)) start next (left (now (text .entry)) next) r (wordHead (now (text .entry)) depth place (part (now (text .entry)) start end) (tokensFrom (now (text .entry)) next) (after openSign (tokensFrom (now (text .entry)) next))) ⌝ }
 {
     let word = word_of(text, start, end);
-    let Token::Open {
-        place: bracket,
-        next: inside,
-    } = token_at(text, next, class)
-    else {
+    let Next::To(inside) = bracket_at(text, next, classes::OPEN, class) else {
         if eq_ignore_ascii_case(word, b"readable") {
             return Head::Leaf {
                 test: Test::Readable(1),
@@ -290,7 +288,7 @@ fn word_head(
         return Head::Name { start, end, next };
     };
     if 64 <= depth {
-        return refuse(refusals::TOO_DEEP, bracket);
+        return refuse(refusals::TOO_DEEP, inside - 1);
     }
     call_head(text, place, function_of(word), inside, class)
 }

@@ -1,7 +1,7 @@
 -- "Numbers little-endian". Assumes nothing.
 use Prim.Native.Nat.{ℕ, zero, suc, _+_, _*_, _/_, _%_, _<_}
 use mathlib.Core.List.{List, [], _∷_, _++_}
-use lib.ListN.{length, getD, take, drop}
+use lib.ListN.{getD, take, drop}
 
 -- a list of bytes
 abbrev pub AllBytes : List ℕ → Type 0

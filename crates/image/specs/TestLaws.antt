@@ -1,32 +1,15 @@
--- The tests of a whole image: that its name bytes are below 128, its lengths, and that these tests and those of its names and nodes are all.
--- Assumes nothing.
+-- The tests of a whole image: its lengths, and that this test and those of its name bytes, names and nodes are all. Assumes nothing.
 use mathlib.Core.Path.{_≡_, refl, ap₂, _∙_}
 use mathlib.Core.Bool.{Bool, true, false, _&&_}
 use mathlib.Core.List.{List}
 use Prim.Native.Nat.{ℕ, _+_, _*_, _≤_, _<_}
-use native.Mathlib.Numerals.{add-one}
 use native.Mathlib.Omega.{arith}
 use lib.Dec.{leb}
-use lib.ListN.{length, getD, drop, drop-of-length-le}
-use lib.Seq.{drop-cons}
-use borrow.Author.Tests.{leb-true, le-leb, eqb-true, eq-eqb, lt-ltb, le-ltb}
+use lib.ListN.{length, drop}
+use borrow.Author.Tests.{leb-true, le-leb, eqb-true, eq-eqb}
 use Rattle.image.specs.Bytes.{leAt}
 use Rattle.image.specs.Encode.{allAscii}
 use Rattle.image.specs.Decode.{bind, isSome, nodeAt, cellAt, build, only, nameEnd, endsAt, sized, decodeParts, decode}
-
--- the bytes from i on
-module _ (s : List ℕ) (i : ℕ) where
-  pub ascii-next : i < length s → getD s i 0 < 128 → allAscii (drop i s) ≡ allAscii (drop (i + 1) s)
-  unfolding allAscii
-  ascii-next h b = rw (add-one, drop-cons s i 0, lt-ltb (getD s i 0) 128 b)
-
-  pub ascii-no : i < length s → 128 ≤ getD s i 0 → allAscii (drop i s) ≡ false
-  unfolding allAscii
-  ascii-no h b = rw (drop-cons s i 0, le-ltb (getD s i 0) 128 b)
-
-  pub ascii-done : length s ≤ i → allAscii (drop i s) ≡ true
-  unfolding allAscii
-  ascii-done h = rw (drop-of-length-le s h)
 
 both-true : (a b : Bool) → (a && b) ≡ true → (a ≡ true) × (b ≡ true)
 both-true true b e = (refl, e)

@@ -10,6 +10,7 @@ ghost use Rattle.image.specs.Valid.{UpTo, nodeOf};
 use crate::le2;
 use crate::le4;
 use crate::le8;
+use ascii::largest_from;
 
 // A node as it lies in the image.
 pub struct Node {
@@ -132,14 +133,7 @@ pub fn ascii_from(s: &[u8], at: usize) -> bool
     requires { ⌜ at ≤ length (now s) ⌝ }
     ensures { λ r. ⌜ r ≡ allAscii (drop at (now (s .entry))) ⌝ }
 {
-    let mut i = at;
-    while i < s.len() {
-        if s[i] >= 128 {
-            return false;
-        }
-        i += 1;
-    }
-    true
+    largest_from(s, at) < 128
 }
 
 // Whether the bytes are a rule's image.

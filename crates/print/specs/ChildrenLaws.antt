@@ -2,7 +2,7 @@
 use mathlib.Core.Path.{_≡_, refl, sym, ap, _∙_}
 use mathlib.Core.Bool.{Bool, true, false}
 use mathlib.Core.List.{List, [], _++_, append-assoc, append-nil}
-use Prim.Native.Nat.{ℕ, _+_, _-_, _*_, _≤_, _<_}
+use Prim.Native.Nat.{ℕ, suc, _+_, _-_, _*_, _≤_, _<_}
 use native.Mathlib.Omega.{arith}
 use lib.Dec.{eqb}
 use lib.ListN.{length, length-append}
@@ -46,10 +46,10 @@ module _ (s : List ℕ) (n : ℕ) where
   Walks kind arg from k end P =
       (ρ : Rule) → size ρ ≡ k → Stands ρ (cellAt s n) from → (rest : Rules) × (passed : List ℕ) × Walk kind arg from k end ρ rest passed × P passed
 
-  -- ---- the root was read as d
-  module _ (from k : ℕ) {d : Node} (read : d ≡ nodeAt s n (from + k - 1)) where
+  -- ---- the last of k nodes from `from` on was read as d
+  module _ (from k i : ℕ) {d : Node} (read : d ≡ nodeAt s n i) (last : from + k ≡ suc i) where
     root : (ρ : Rule) → size ρ ≡ k → Stands ρ (cellAt s n) from → meaning s n (d .kind) (d .arg) ≡ rootOf ρ
-    root ρ e st = cell-what s n _ read ∙ root-what ρ (cellAt s n) from (from + k - 1) (omega (arith, size-pos ρ)) st
+    root ρ e st = cell-what s n i read ∙ root-what ρ (cellAt s n) from i (omega arith) st
 
     -- a leaf has no children
     pub leaf-text : d .kind < 3 → (ρ : Rule) → size ρ ≡ k → Stands ρ (cellAt s n) from → leafIn s n (d .kind) (d .arg) ≡ textOf ρ
@@ -58,12 +58,12 @@ module _ (s : List ℕ) (n : ℕ) where
     leaf-text low (node j rs r) e st = absurd (no-join s n (d .kind) (d .arg) (λ h i. omega arith) j (root (node j rs r) e st))
 
     -- no child is passed yet
-    pub walks-start : {P : List ℕ → Type 0} → 3 ≤ d .kind → P [] → Walks (d .kind) (d .arg) from k (from + k - 1) P
+    pub walks-start : {P : List ℕ → Type 0} → 3 ≤ d .kind → P [] → Walks (d .kind) (d .arg) from k i P
     unfolding size Stands textOf upTo
     walks-start high p (leaf l) e st = absurd (no-leaf s n (d .kind) (d .arg) high l (root (leaf l) e st))
     walks-start high p (node j rs r) e st =
         let (x, y) = rw (root (node j rs r) e st) at (says s n (d .kind) (d .arg)) in
-        (more rs r, [], record { join = j; kinded = x; standing = (st .0, st .1); ends = omega arith; text = rw (x, y, opening-of j, eq-eqb (from + k - 1) (from + k - 1) refl, append-nil) }, p)
+        (more rs r, [], record { join = j; kinded = x; standing = (st .0, st .1); ends = omega arith; text = rw (x, y, opening-of j, eq-eqb i (from + k - 1) (omega arith), append-nil) }, p)
 
   -- the child before `end`, whose root was read as d, is the next to be passed
   pub record Turn (kind arg from k end : ℕ) (P : List ℕ → Type 0) (ρ : Rule) (d : Node) : Type 0 where
@@ -96,7 +96,7 @@ module _ (s : List ℕ) (n : ℕ) where
           let e : here + size q - 1 ≡ end - 1 = omega arith in
           let z : size q ≡ d .size = sym (rw e at (root-size q (cellAt s n) here (w .standing .1))) ∙ sym (cell-size s n _ read) in
           let p : here ≡ end - d .size = omega arith in
-          let x : d .kind ≡ kindOf q = kind-of s n (d .kind) (d .arg) q (cell-what s n _ read ∙ root-what q (cellAt s n) here (end - 1) (omega arith) (w .standing .1)) in
+          let x : d .kind ≡ kindOf q = kind-of s n (d .kind) (d .arg) q (root here (size q) (end - 1) read (omega arith) q refl (w .standing .1)) in
           record {
             child = q;
             sized = z;

@@ -122,7 +122,11 @@ pub fn put_rule(
         let back = child.size;
         to = put_back(kind, child.kind, stop == at, text, to);
         stop -= back;
-        to = put_rule(image, n, stop, back, text, to);
+        if child.kind < 3 {
+            to = put_leaf(image, n, child.kind, child.arg, text, to);
+        } else {
+            to = put_rule(image, n, stop, back, text, to);
+        }
         to = put_front(kind, child.kind, text, to);
     }
     put_opening(kind, arg, text, to)

@@ -92,7 +92,11 @@ pub fn text_size(image: &[u8], n: usize, from: usize, size: usize) -> usize
         let back = child.size;
         total += around_size(kind, child.kind, end == at);
         end -= back;
-        total += text_size(image, n, end, back);
+        if child.kind < 3 {
+            total += leaf_size(image, n, child.kind, child.arg);
+        } else {
+            total += text_size(image, n, end, back);
+        }
     }
     total
 }

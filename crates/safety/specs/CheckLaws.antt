@@ -1,14 +1,13 @@
 -- What checking answers, by what each test found, and that what reading writes can be checked. Assumes nothing.
-use Prim.Native.Nat.{ℕ, zero, suc, _≤_}
+use Prim.Native.Nat.{ℕ, _≤_}
 use mathlib.Core.Path.{_≡_, refl, sym, ap, _∙_}
-use mathlib.Core.Bool.{Bool, true, false, _&&_, and-false}
+use mathlib.Core.Bool.{Bool, true, false, _&&_}
 use mathlib.Core.List.{List, [], _∷_, _++_}
 use native.Mathlib.Omega.{arith}
-use borrow.Author.Tests.{le-leb, lt-leb}
+use borrow.Author.Tests.{le-leb}
 use lib.Dec.{leb}
 use lib.ListN.{length, take, drop, length-append}
 use lib.Seq.{take-append-seam}
-use Rattle.ascii.specs.Letters.{within}
 use Rattle.refusals.specs.Refusals.{refusal, badImage, badStoreTable, twinName, unknownStore, unconfirmed, archiveOnly}
 use Rattle.image.specs.Rule.{Rule, size}
 use Rattle.image.specs.Bytes.{leAt}
@@ -18,11 +17,10 @@ use Rattle.image.specs.FitLaws.{isSome-true, isSome-false}
 use Rattle.image.specs.Standing.{Stands}
 use Rattle.grammar.specs.Reading.{Read, rule, refused, readOf}
 use Rattle.grammar.specs.FitsLaws.{read-decodes}
-use Rattle.expressions.specs.Outcome.{Outcome, outcome, readingOf, readInto}
-use Rattle.expressions.specs.ReadLaws.{reads}
+use Rattle.expressions.specs.Outcome.{Outcome, outcome, readingOf}
 use Rattle.expressions.specs.declared.Reading.{Reading}
 use Rattle.expressions.specs.declared.Reading.the-variants.{Read as Written}
-use Rattle.stores.specs.Stores.{Entry, isTable, countIn, entriesIn, namesOf, twinOf}
+use Rattle.stores.specs.Stores.{Entry, isTable, countIn, entriesIn, twinOf}
 use Rattle.stores.specs.StoresLaws.{well-made-laid}
 use Rattle.stores.specs.WalkLaws.{length-entries}
 use Rattle.stores.specs.declared.Twin.the-variants.{No as Lone, At as Twinned}
@@ -33,18 +31,6 @@ use Rattle.safety.specs.declared.Unknown.{Unknown}
 use Rattle.safety.specs.declared.Unknown.the-variants.{No, At}
 use Rattle.safety.specs.declared.Verdict.{Verdict}
 use Rattle.safety.specs.declared.Verdict.the-variants.{Pass, Refused}
-
--- ---- names by modes
-
--- no mode is from 1 up to 0
-never-within : (m : ℕ) → within 1 0 m ≡ false
-never-within zero = refl
-never-within (suc m) = rw (lt-leb (suc m) 0 (omega arith), and-false)
-
-names-none : (es : List Entry) → namesOf 1 0 es ≡ []
-unfolding namesOf
-names-none [] = refl
-names-none (e ∷ es) = rw (never-within (e .mode)) (names-none es)
 
 -- where 21 is not due, 22 is tested without a look at whether there are write-only stores
 pub archived-by : (r : Rule) (es : List Entry) → bare r es ≡ false → archived r es ≡ evict r (worldOf es oldest (writeOnly es))
@@ -96,17 +82,14 @@ module _ (r : Rule) (s : List ℕ) where
     refused-20 e = rw e at by-tests
 
     -- 21: there is none, and b is what the rule says with nothing confirmed
-    module _ (known : u ≡ No) {b : Bool} (says : b ≡ evict r (worldOf (entriesIn s) oldest (namesOf 1 0 (entriesIn s)))) where
-      says-bare : bare r (entriesIn s) ≡ b
-      says-bare = sym (rw names-none at says)
-
+    module _ (known : u ≡ No) {b : Bool} (says : b ≡ bare r (entriesIn s)) where
       pub refused-21 : b ≡ true → Refused (refusal unconfirmed 0) ≡ checkRule r s
-      refused-21 e = rw (known, says-bare, e) at by-tests
+      refused-21 e = rw (known, ← says, e) at by-tests
 
       -- 22 or a pass: b is keep, and a is what the rule says with the write-only stores confirmed
-      module _ (keeps : b ≡ false) {a : Bool} (also : a ≡ evict r (worldOf (entriesIn s) oldest (namesOf 2 2 (entriesIn s)))) where
+      module _ (keeps : b ≡ false) {a : Bool} (also : a ≡ evict r (worldOf (entriesIn s) oldest (writeOnly (entriesIn s)))) where
         by-archived : verdict No false a ≡ checkRule r s
-        by-archived = rw (known, archived-by r (entriesIn s) (says-bare ∙ keeps), says-bare, keeps, ← also) at by-tests
+        by-archived = rw (known, archived-by r (entriesIn s) (sym says ∙ keeps), ← says, keeps, ← also) at by-tests
 
         pub refused-22 : a ≡ true → Refused (refusal archiveOnly 0) ≡ checkRule r s
         refused-22 e = rw e at by-archived
@@ -130,9 +113,9 @@ module _ (i : List ℕ) where
         let w = decode-whole i p e in
         rw e (h r (w .sized) (w .stands))
 
--- ---- what reading writes into a buffer that has room is an image, and lies within the buffer
-pub written-image : (text buffer : List ℕ) {a : Reading} {n : ℕ} {image : List ℕ} → 26_628 ≤ length buffer → outcome a image ≡ readInto text buffer → a ≡ Written n → (n ≤ length image) × (isSome (decode (take n image)) ≡ true)
-written-image text buffer {a} {n} {image} room e is = go (readOf text) refl (e ∙ reads text buffer room refl)
+-- ---- what reading writes into a buffer is an image, and lies within the buffer
+pub written-image : (text buffer : List ℕ) {a : Reading} {n : ℕ} {image : List ℕ} → outcome a image ≡ readingOf (readOf text) buffer → a ≡ Written n → (n ≤ length image) × (isSome (decode (take n image)) ≡ true)
+written-image text buffer {a} {n} {image} e is = go (readOf text) refl e
   where
     go : (x : Read) → readOf text ≡ x → outcome a image ≡ readingOf x buffer → (n ≤ length image) × (isSome (decode (take n image)) ≡ true)
     go (rule r) q o =

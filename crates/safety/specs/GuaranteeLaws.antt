@@ -12,7 +12,7 @@ use Rattle.image.specs.Decode.{decode}
 use Rattle.grammar.specs.Reading.{Read, rule, refused, readOf}
 use Rattle.grammar.specs.FitsLaws.{read-decodes}
 use Rattle.grammar.specs.NumberLaws.{read-number}
-use Rattle.expressions.specs.Outcome.{outcome, readInto}
+use Rattle.expressions.specs.Outcome.{outcome, readingOf, readInto}
 use Rattle.expressions.specs.ReadLaws.{reads}
 use Rattle.expressions.specs.declared.Reading.{Reading}
 use Rattle.decide.specs.ReadDecideLaws.{decide-read-says}
@@ -40,26 +40,30 @@ module _ (image s : List ℕ) where
 
 -- ---- texts
 module _ (text s : List ℕ) where
-  judge-read : {x : Read} → readOf text ≡ x → judgeOf text s ≡ judgeRead x s
+  pub judge-read : {x : Read} → readOf text ≡ x → judgeOf text s ≡ judgeRead x s
   unfolding judgeOf
   judge-read e = rw e
 
-  module _ (buffer : List ℕ) (room : 26_628 ≤ length buffer) where
+  module _ (buffer : List ℕ) where
     -- the bytes written are the image of the text's rule
-    image-written : {r : Rule} → readOf text ≡ rule r → (let o = readInto text buffer in bytesWritten (o .answer) (o .image) ≡ encode r)
-    image-written {r} e = rw (reads text buffer room e) (take-append-seam (encode r) (drop (length (encode r)) buffer))
+    image-written : {r : Rule} → 26_628 ≤ length buffer → readOf text ≡ rule r → (let o = readInto text buffer in bytesWritten (o .answer) (o .image) ≡ encode r)
+    image-written {r} room e = rw (reads text buffer room e) (take-append-seam (encode r) (drop (length (encode r)) buffer))
 
-    read-then-check : (x : Read) → readOf text ≡ x → (let o = readInto text buffer in judgeRead x s ≡ thenCheck (o .answer) (o .image) s)
+    read-then-check : (x : Read) → readOf text ≡ x → (let o = readingOf x buffer in judgeOf text s ≡ thenCheck (o .answer) (o .image) s)
     unfolding checkOf
-    read-then-check (rule r) e = rw (reads text buffer room e, take-append-seam (encode r) (drop (length (encode r)) buffer), read-decodes text r e)
-    read-then-check (refused f) e = rw (reads text buffer room e)
+    read-then-check (rule r) e = judge-read e ∙ rw (take-append-seam (encode r) (drop (length (encode r)) buffer), read-decodes text r e)
+    read-then-check (refused f) e = judge-read e
+
+    -- judging is reading into a buffer, and then checking
+    pub judges : {a b : Reading} {image : List ℕ} → outcome a image ≡ readingOf (readOf text) buffer → a ≡ b → thenCheck b image s ≡ judgeOf text s
+    judges e q = sym (rw (← e, q) at (read-then-check (readOf text) refl))
 
   pub judged : Judged text s (judgeOf text s)
   judged = record {
     guarantee = λ t. guaranteed (λ r. readOf text ≡ rule r) t (λ r e. judge-read e) (held (readOf text) refl);
     unread = λ f e. let (low, high) = read-number text f e in (judge-read e, low, high);
     decides = λ r e table lone buffer room age l is. rw (image-written buffer room e) (decide-read-says text r e s age l table lone is);
-    read-check = λ buffer room. judge-read refl ∙ read-then-check buffer room (readOf text) refl;
+    read-check = λ buffer room. rw (reads text buffer room refl) (read-then-check buffer (readOf text) refl);
   }
     where
       held : (x : Read) → readOf text ≡ x → judgeOf text s ≡ Pass → (r : Rule) × (readOf text ≡ rule r)
@@ -72,7 +76,3 @@ with-checked image s e = (e, rw e (checked image s))
 
 pub with-judged : (text s : List ℕ) {v : Verdict} → v ≡ judgeOf text s → (v ≡ judgeOf text s) × Judged text s v
 with-judged text s e = (e, rw e (judged text s))
-
--- judging is reading into a buffer that has room, and then checking
-pub judges : (text s buffer : List ℕ) {a b : Reading} {image : List ℕ} → 26_628 ≤ length buffer → outcome a image ≡ readInto text buffer → a ≡ b → thenCheck b image s ≡ judgeOf text s
-judges text s buffer room e q = sym (rw (← e, q) at (judged text s .read-check buffer room))

@@ -1,6 +1,8 @@
 pub mod Check
+pub mod Grades
 pub mod Guarantee
 pub mod CheckLaws
+pub mod GradesLaws
 pub mod UnknownLaws
 pub mod KnownLaws
 pub mod ListsLaws

@@ -6,19 +6,20 @@ use mathlib.Core.List.{List}
 use mathlib.Core.Logic.{_↔_, _⊎_, inl, inr, ⊎-elim}
 use Prim.Native.Nat.{ℕ, _≤_}
 use native.Mathlib.Omega.{arith}
-use borrow.Author.Tests.{leb-true, leb-false}
+use borrow.Author.Tests.{leb-false}
 use Rattle.refusals.specs.Refusals.{refusal, unknownStore, unconfirmed, archiveOnly}
 use Rattle.image.specs.Rule.{Rule}
 use Rattle.stores.specs.Names.{has}
-use Rattle.stores.specs.Stores.{Entry, isReadable, entriesIn, namesOf}
+use Rattle.stores.specs.Stores.{isReadable, entriesIn, namesOf}
 use Rattle.stores.specs.MemberLaws.{has-mem, mem-has}
-use Rattle.stores.specs.EntryLaws.{entry-mode, name-entry, entry-named, one-of-name, OneReady, NoneReady, ready-or-none}
+use Rattle.stores.specs.EntryLaws.{entry-mode, name-entry, entry-named, OneReady, NoneReady, ready-or-none}
 use Rattle.decide.specs.Evict.{worldOf, evict}
 use Rattle.decide.specs.Decide.{listNames}
 use Rattle.decide.specs.MonotoneLaws.{evict-up}
 use Rattle.safety.specs.Check.{unknownIn, oldest, writeOnly, bare, archived, verdict, checkRule}
 use Rattle.safety.specs.Guarantee.{Table, Named, Nothing, JustWriteOnly, Known, Evicts, ReadableOn, Safe, Guarantee}
 use Rattle.safety.specs.CheckLaws.{archived-by, by-tests}
+use Rattle.safety.specs.GradesLaws.{write-only-unready}
 use Rattle.safety.specs.KnownLaws.{unknown-no, no-unknown}
 use Rattle.safety.specs.ListsLaws.{has-named, write-only-mem, nothing-same, write-only-same, nothing-is, write-only-is}
 use Rattle.safety.specs.declared.Unknown.{Unknown}
@@ -58,10 +59,6 @@ false-of true f = absurd (f refl)
 false-of false f = refl
 
 -- ---- the mode that is not readable
-readable-low : {mode : ℕ} → isReadable mode ≡ true → mode ≤ 1
-unfolding isReadable
-readable-low {mode} e = leb-true mode 1 e
-
 unreadable-two : {mode : ℕ} → mode ≤ 2 → isReadable mode ≡ false → mode ≡ 2
 unfolding isReadable
 unreadable-two {mode} le e = omega (arith, leb-false mode 1 e)
@@ -122,10 +119,7 @@ module _ {s : List ℕ} (t : Table s) (r : Rule) where
       by true e =
           let (l, j) = write-only-is s t in
           let (x, m, q, on) = safe oldest (omega arith) l (j .list) (write-only-same r s oldest l j ∙ e) in
-          let (y, k, two, p) = j .just (x .name) .0 on in
-          let same : x ≡ y = one-of-name (entriesIn s) (t .lone) x y m k (sym p) in
-          let mode : x .mode ≡ 2 = ap (λ (z : Entry). z .mode) same ∙ two in
-          absurd (omega (arith, readable-low q))
+          absurd (write-only-unready (entriesIn s) (t .lone) x m q (mem-has (write-only-mem s (x .name) (j .just (x .name) .0 on))))
       by false e = refl
 
   -- ---- the guarantee

@@ -104,7 +104,7 @@ module _ (stores : List Entry) (s : List ℕ) (n i : ℕ) {d : Node} (e : d ≡ 
   pub other-known : (d .kind ≡ 0 → ⊥) → unknownCell stores (cellAt s n i .what) i ≡ No
   other-known h = rw (← cell-what s n i e) (meaning-known stores s n (d .kind) (d .arg) i h)
 
-  -- it is a name, and b says whether it is a store's, x whether it is not
-  pub name-says : {b x : Bool} {w : List ℕ} → d .kind ≡ 0 → w ≡ take (d .arg % 65536) (drop (4 + 12 * n + d .arg / 65536) s) → b ≡ has w (namesOf 0 2 stores) → not b ≡ x → unknownCell stores (cellAt s n i .what) i ≡ cond x (At i) No
+  -- it is a name, and b says whether it is a store's
+  pub name-says : {b : Bool} {w : List ℕ} → d .kind ≡ 0 → w ≡ take (d .arg % 65536) (drop (4 + 12 * n + d .arg / 65536) s) → has w (namesOf 0 2 stores) ≡ b → unknownCell stores (cellAt s n i .what) i ≡ cond (not b) (At i) No
   unfolding meaning unknownCell isUnknown
-  name-says k named-as says h = rw (← cell-what s n i e, k, ← named-as, ← says, h)
+  name-says k named-as says = rw (← cell-what s n i e, k, ← named-as, says)

@@ -3,12 +3,13 @@
 use mathlib.Core.Path.{_≡_, refl, sym, ap, _∙_}
 use mathlib.Core.Bool.{Bool, true, false, cond, _&&_, _||_, true≢false, and-eq-true-iff}
 use mathlib.Core.Logic.{_⊎_, inl, inr}
-use mathlib.Core.List.{List, [], _∷_, List·Memᴰ, List·Memᴰ·head, List·Memᴰ·tail, List·Memᴰ·not-nil}
-use Prim.Native.Nat.{ℕ, suc, _+_, _≤_}
+use mathlib.Core.List.{List, [], _∷_, List·Memᴰ, List·Memᴰ·head, List·Memᴰ·tail, List·Memᴰ·not-nil, Memᴰ·append-right}
+use Prim.Native.Nat.{ℕ, zero, suc, _+_, _-_, _≤_, _<_}
 use native.Mathlib.Omega.{arith}
 use borrow.Author.Tests.{leb-true, le-leb}
 use lib.Dec.{leb}
-use lib.ListN.{length, drop, length-take}
+use lib.ListN.{length, take, drop, length-take, length-drop}
+use lib.Seq.{drop-nil, take-add, take-length}
 use Rattle.ascii.specs.Letters.{within}
 use Rattle.image.specs.Bytes.{AllBytes}
 use Rattle.image.specs.BytesLaws.{bytes-at}
@@ -56,6 +57,18 @@ names-few lo hi (e ∷ es) = go (within lo hi (e .mode)) (names-few lo hi es)
     go true h = omega arith
     go false h = omega arith
 
+-- ---- an entry that stands at a place is one of them
+pub at-below : (es : List Entry) (k : ℕ) {x : Entry} {xs : List Entry} → drop k es ≡ x ∷ xs → k < length es
+at-below es k e = omega (arith, rw e at (length-drop k es))
+
+at-take : (es : List Entry) (first k : ℕ) {x : Entry} {xs : List Entry} → k < first → drop k es ≡ x ∷ xs → List·Memᴰ x (take first es)
+at-take es first k {x} lt e =
+    let z : first ≡ k + suc (first - suc k) = omega arith in
+    rw (z, take-add, e) (Memᴰ·append-right (take k es) (List·Memᴰ·head refl))
+
+pub at-mem : (es : List Entry) (k : ℕ) {x : Entry} {xs : List Entry} → drop k es ≡ x ∷ xs → List·Memᴰ x es
+at-mem es k e = rw take-length at (at-take es (length es) k (at-below es k e) e)
+
 -- ---- no two entries of one name where there is no twin
 no-twin : (b : Bool) (i : ℕ) (r : Twin) → cond b (At i) r ≡ No → (b ≡ false) × (r ≡ No)
 no-twin true i r e = absurd (let z : _≡_ {A = ℕ} 0 1 = cc in omega arith)
@@ -72,26 +85,40 @@ unseen seen i (x ∷ es) t e (List·Memᴰ·head p) = rw p (no-twin (has (x .nam
 unseen seen i (x ∷ es) t e (List·Memᴰ·tail m) =
     neither (sameName (e .name) (x .name)) (has (e .name) seen) (unseen (x .name ∷ seen) (suc i) es (no-twin (has (x .name) seen) i _ t .1) e m)
 
+-- nor that of an entry before it
+module _ (seen : List (List ℕ)) (i : ℕ) (x : Entry) (es : List Entry) (t : twinFrom seen i (x ∷ es) ≡ No) where
+  later : twinFrom (x .name ∷ seen) (suc i) es ≡ No
+  unfolding twinFrom
+  later = no-twin (has (x .name) seen) i _ t .1
+
+  apart : (y : Entry) → List·Memᴰ y es → y .name ≡ x .name → ⊥
+  apart y m e = true≢false (sym (mem-has (List·Memᴰ·head {xs = seen} e)) ∙ unseen (x .name ∷ seen) (suc i) es later y m)
+
 one-from : (seen : List (List ℕ)) (i : ℕ) (es : List Entry) → twinFrom seen i es ≡ No → (e f : Entry) → List·Memᴰ e es → List·Memᴰ f es → e .name ≡ f .name → e ≡ f
-unfolding twinFrom
 one-from seen i [] t e f m k n = absurd (List·Memᴰ·not-nil m)
-one-from seen i (x ∷ es) t e f m k n = go (λ l j. one-from (x .name ∷ seen) (suc i) es rest e f l j n) m k
+one-from seen i (x ∷ es) t e f m k n = go (λ l j. one-from (x .name ∷ seen) (suc i) es (later seen i x es t) e f l j n) m k
   where
-    rest : twinFrom (x .name ∷ seen) (suc i) es ≡ No
-    rest = no-twin (has (x .name) seen) i _ t .1
-
-    apart : (y : Entry) → List·Memᴰ y es → y .name ≡ x .name → ⊥
-    apart y l e = true≢false (sym (mem-has (List·Memᴰ·head {xs = seen} e)) ∙ unseen (x .name ∷ seen) (suc i) es rest y l)
-
     go : (List·Memᴰ e es → List·Memᴰ f es → e ≡ f) → List·Memᴰ e (x ∷ es) → List·Memᴰ f (x ∷ es) → e ≡ f
     go below (List·Memᴰ·head p) (List·Memᴰ·head q) = p ∙ sym q
-    go below (List·Memᴰ·head p) (List·Memᴰ·tail l) = absurd (apart f l (rw p at (sym n)))
-    go below (List·Memᴰ·tail l) (List·Memᴰ·head q) = absurd (apart e l (rw q at n))
+    go below (List·Memᴰ·head p) (List·Memᴰ·tail l) = absurd (apart seen i x es t f l (rw p at (sym n)))
+    go below (List·Memᴰ·tail l) (List·Memᴰ·head q) = absurd (apart seen i x es t e l (rw q at n))
     go below (List·Memᴰ·tail l) (List·Memᴰ·tail j) = below l j
 
 pub one-of-name : (es : List Entry) → twinOf es ≡ No → (e f : Entry) → List·Memᴰ e es → List·Memᴰ f es → e .name ≡ f .name → e ≡ f
 unfolding twinOf
 one-of-name es t = one-from [] 0 es t
+
+-- nor does one name stand at two places
+place-from : (seen : List (List ℕ)) (i : ℕ) (es : List Entry) → twinFrom seen i es ≡ No → (k j : ℕ) {x y : Entry} {xs ys : List Entry} → drop k es ≡ x ∷ xs → drop j es ≡ y ∷ ys → x .name ≡ y .name → k ≡ j
+place-from seen i [] t k j p q n = absurd (let z : _≡_ {A = ℕ} 0 1 = cc (drop-nil {A = Entry} k) in omega arith)
+place-from seen i (z ∷ es) t zero zero p q n = refl
+place-from seen i (z ∷ es) t zero (suc j) {x} {y} p q n = absurd (apart seen i z es t y (at-mem es j q) (cc))
+place-from seen i (z ∷ es) t (suc k) zero {x} p q n = absurd (apart seen i z es t x (at-mem es k p) (cc))
+place-from seen i (z ∷ es) t (suc k) (suc j) p q n = ap suc (place-from (z .name ∷ seen) (suc i) es (later seen i z es t) k j p q n)
+
+pub one-place : (es : List Entry) → twinOf es ≡ No → (k j : ℕ) {x y : Entry} {xs ys : List Entry} → drop k es ≡ x ∷ xs → drop j es ≡ y ∷ ys → x .name ≡ y .name → k ≡ j
+unfolding twinOf
+one-place es t = place-from [] 0 es t
 
 -- ---- a readable store is confirmed, or none is, and then none is counted
 abbrev pub OneReady : List Entry → List (List ℕ) → Type 0
@@ -129,6 +156,20 @@ mode-from most (m ∷ ms) (l ∷ ls) bs h e (List·Memᴰ·tail k) =
 pub entry-mode : (most : ℕ) (s : List ℕ) → wellMade most s ≡ true → (e : Entry) → List·Memᴰ e (entriesIn s) → e .mode ≤ most
 unfolding entriesIn
 entry-mode most s h = mode-from most (modesIn s) (lengthsIn s) (nameBytesIn s) (made most s h .modes)
+
+-- of any bytes, a mode is a byte
+bytes-most : (ms : List ℕ) → AllBytes ms → allAtMost 255 ms ≡ true
+unfolding allAtMost
+bytes-most [] b = refl
+bytes-most (m ∷ ms) b = rw (le-leb m 255 (omega (arith, b 0))) (bytes-most ms (λ i. b (suc i)))
+
+pub entry-byte : (s : List ℕ) → AllBytes s → (e : Entry) → List·Memᴰ e (entriesIn s) → e .mode ≤ 255
+unfolding entriesIn
+entry-byte s b = mode-from 255 (modesIn s) (lengthsIn s) (nameBytesIn s) (bytes-most (modesIn s) (bytes-at s 4 (countIn s) b))
+
+-- so each of the first entries has its name among theirs
+pub has-at : (s : List ℕ) → AllBytes s → (first k : ℕ) {x : Entry} {xs : List Entry} → k < first → drop k (entriesIn s) ≡ x ∷ xs → has (x .name) (namesOf 0 255 (take first (entriesIn s))) ≡ true
+has-at s b first k {x} lt e = mem-has (entry-named 0 255 x (take first (entriesIn s)) (at-take (entriesIn s) first k lt e) (omega arith) (entry-byte s b x (at-mem (entriesIn s) k e)))
 
 name-from : (ms ls bs : List ℕ) → AllBytes ls → allAscii bs ≡ true → (e : Entry) → List·Memᴰ e (entriesFrom ms ls bs) → (length (e .name) ≤ 255) × (allAscii (e .name) ≡ true)
 unfolding entriesFrom

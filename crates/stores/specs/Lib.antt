@@ -5,7 +5,14 @@ pub mod NamesLaws
 pub mod EntriesLaws
 pub mod StoresLaws
 pub mod WalkLaws
+pub mod Index
+pub mod BlankLaws
 pub mod MemberLaws
+pub mod SameLaws
+pub mod IndexLaws
 pub mod EntryLaws
+pub mod AllNamesLaws
+pub mod LookupLaws
+pub mod MarkLaws
 pub mod ListBytes
 pub mod ListBytesLaws

@@ -1,10 +1,14 @@
-// Store tables and confirmed lists: whether bytes are one, a name looked up among its entries, and twins.
+// Store tables and confirmed lists: whether bytes are one, and whether two names are the same.
+pub mod confirmed;
+pub mod index;
+
 ghost use mathlib.Core.Path.{_≡_};
 ghost use Prim.Native.Nat.{_+_, _*_, _≤_, _<_};
 ghost use lib.ListN.{length, take, drop};
-ghost use Rattle.stores.specs.Names.{sameName, has};
-ghost use Rattle.stores.specs.Stores.{Laid, countIn, entriesIn, sum, allAtMost, wellMade, isReadable, namesOf, readyCount, twinOf};
+ghost use Rattle.stores.specs.Names.{sameName};
+ghost use Rattle.stores.specs.Stores.{Laid, countIn, sum, allAtMost, wellMade, isReadable};
 use image::le2;
+use image::le8;
 use image::valid::ascii_from;
 
 // The index of a store whose name an earlier store has, or none.
@@ -13,17 +17,43 @@ pub enum Twin {
     At(usize),
 }
 
-fn wide(x: u8) -> usize
+// A byte as a number.
+pub fn wide(x: u8) -> usize
     ensures { λ r. ⌜ (r ≡ x) × (r < 256) ⌝ }
 {
     x as usize
 }
 
-// Two names are the same.
+// Two names of one length are the same from a position on.
+fn same_from(a: &[u8], b: &[u8], at: usize) -> bool
+    requires { ⌜ length (now a) ≡ length (now b) ⌝ }
+    ensures { λ r. ⌜ r ≡ sameName (drop at (now (a .entry))) (drop at (now (b .entry))) ⌝ }
+{
+    let mut i = at;
+    while i < a.len() {
+        if a[i] != b[i] {
+            return false;
+        }
+        i += 1;
+    }
+    true
+}
+
+// Two names are the same: eight bytes at a time, then byte by byte.
 pub fn same_name(a: &[u8], b: &[u8]) -> bool
     ensures { λ r. ⌜ r ≡ sameName (now (a .entry)) (now (b .entry)) ⌝ }
 {
-    ascii::eq(a, b)
+    if a.len() != b.len() {
+        return false;
+    }
+    let mut i = 0;
+    while i + 8 <= a.len() {
+        if le8(a, i) != le8(b, i) {
+            return false;
+        }
+        i += 8;
+    }
+    same_from(a, b, i)
 }
 
 // A mode that is read in normal running.
@@ -92,70 +122,4 @@ pub fn count_of(s: &[u8]) -> usize
     ensures { λ r. ⌜ (r ≡ countIn (now (s .entry))) × (r ≤ 64) ⌝ }
 {
     le2(s, 0) as usize
-}
-
-// Whether a name is among the first `first` entries whose modes are from lo up to hi.
-pub fn is_among(name: &[u8], s: &[u8], first: usize, lo: u8, hi: u8) -> bool
-    requires { ⌜ Laid (now s) × (first ≤ countIn (now s)) ⌝ }
-    ensures { λ r. ⌜ r ≡ has (now (name .entry)) (namesOf lo hi (take first (entriesIn (now (s .entry))))) ⌝ }
-{
-    let count = count_of(s);
-    let mut k = 0;
-    let mut at = 4 + 2 * count;
-    while k < first {
-        let len = wide(s[4 + count + k]);
-        let mode = s[4 + k];
-        if lo <= mode {
-            if mode <= hi {
-                if same_name(name, &s[at..at + len]) {
-                    return true;
-                }
-            }
-        }
-        at += len;
-        k += 1;
-    }
-    false
-}
-
-// How many readable stores of a table are among the entries of a list whose modes are from lo up to hi.
-pub fn ready_count(stores: &[u8], list: &[u8], lo: u8, hi: u8) -> u64
-    requires { ⌜ Laid (now stores) × Laid (now list) ⌝ }
-    ensures { λ r. ⌜ r ≡ readyCount (entriesIn (now (stores .entry))) (namesOf lo hi (entriesIn (now (list .entry)))) ⌝ }
-{
-    let count = count_of(stores);
-    let entries = count_of(list);
-    let mut k = 0;
-    let mut at = 4 + 2 * count;
-    let mut ready: u64 = 0;
-    while k < count {
-        let len = wide(stores[4 + count + k]);
-        if is_readable(stores[4 + k]) {
-            if is_among(&stores[at..at + len], list, entries, lo, hi) {
-                ready += 1;
-            }
-        }
-        at += len;
-        k += 1;
-    }
-    ready
-}
-
-// The lowest index whose name an earlier store has.
-pub fn twin_of(stores: &[u8]) -> Twin
-    requires { ⌜ Laid (now stores) ⌝ }
-    ensures { λ r. ⌜ r ≡ twinOf (entriesIn (now (stores .entry))) ⌝ }
-{
-    let count = count_of(stores);
-    let mut k = 0;
-    let mut at = 4 + 2 * count;
-    while k < count {
-        let len = wide(stores[4 + count + k]);
-        if is_among(&stores[at..at + len], stores, k, 0, 255) {
-            return Twin::At(k);
-        }
-        at += len;
-        k += 1;
-    }
-    Twin::No
 }

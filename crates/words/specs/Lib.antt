@@ -1,2 +1,4 @@
 pub mod Token
 pub mod TokenLaws
+pub mod SignLaws
+pub mod ForeignLaws

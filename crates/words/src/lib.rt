@@ -3,10 +3,11 @@ ghost use mathlib.Core.Path.{_≡_};
 ghost use Prim.Native.Nat.{_≤_, _<_};
 ghost use lib.ListN.{length};
 ghost use Rattle.ascii.specs.Text.{part, runEnd};
-ghost use Rattle.classes.specs.Class.{faults};
+ghost use Rattle.classes.specs.Class.{faults, openBracket, comma, ampersand, bar};
 ghost use Rattle.refusals.specs.Refusals.{refusal, halfSign};
-ghost use Rattle.words.specs.Token.{ascii, other, doubled, quotedAt, bareAt, tokenAt, nextOf, placeOf, tokensFrom, lastOf, scanOf};
+ghost use Rattle.words.specs.Token.{ascii, other, doubled, quotedAt, bareAt, tokenAt, nextOf, placeOf, behind, tokensFrom, lastOf, scanOf};
 use ascii::eq_ignore_ascii_case;
+use ascii::largest_from;
 use classes::class_at;
 use classes::class_end;
 use refusals::Refusal;
@@ -72,6 +73,9 @@ pub fn foreign_at(text: &[u8], class: &[u8; 256]) -> usize
     requires { ⌜ faults (now class) ≡ 0 ⌝ }
     ensures { λ r. ⌜ r ≡ runEnd ascii (now (text .entry)) 0 ⌝ }
 {
+    if largest_from(text, 0) < 128 {
+        return text.len();
+    }
     let mut i = 0;
     while i < text.len() {
         if class_at(class, text[i]) == classes::FOREIGN {
@@ -253,6 +257,65 @@ pub fn place_of(t: Token) -> usize
         } => place,
         Token::Fault(f) => f.place,
     }
+}
+
+// Where the text goes on after a bracket or a comma of this class, if that is the next token.
+pub fn bracket_at(text: &[u8], at: usize, k: u8, class: &[u8; 256]) -> Next
+    requires { ⌜ (faults (now class) ≡ 0) × ((openBracket ≤ k) × (k ≤ comma)) ⌝ }
+    ensures { λ r. ⌜ r ≡ behind k (tokenAt (now (text .entry)) at) ⌝ }
+{
+    let place = class_end(text, at, classes::BLANK, class);
+    if text.len() <= place {
+        return Next::Off;
+    }
+    if class_at(class, text[place]) == k {
+        return Next::To(place + 1);
+    }
+    Next::Off
+}
+
+// Where the text goes on after a token, if it is the sign of this class.
+fn next_if(t: Token, k: u8) -> Next
+    requires { ⌜ (ampersand ≤ k) × (k ≤ bar) ⌝ }
+    ensures { λ r. ⌜ r ≡ behind k t ⌝ }
+{
+    match t {
+        Token::And { place: _, next } => {
+            if k == classes::AMPERSAND {
+                return Next::To(next);
+            }
+            Next::Off
+        }
+        Token::Or { place: _, next } => {
+            if k == classes::BAR {
+                return Next::To(next);
+            }
+            Next::Off
+        }
+        _ => Next::Off,
+    }
+}
+
+// Where the text goes on after the sign of this class, if that is the next token: `&&` or `and`, `||` or `or`.
+pub fn sign_at(text: &[u8], at: usize, k: u8, class: &[u8; 256]) -> Next
+    requires { ⌜ (faults (now class) ≡ 0) × ((ampersand ≤ k) × (k ≤ bar)) ⌝ }
+    ensures { λ r. ⌜ r ≡ behind k (tokenAt (now (text .entry)) at) ⌝ }
+{
+    let place = class_end(text, at, classes::BLANK, class);
+    if text.len() <= place {
+        return Next::Off;
+    }
+    let found = class_at(class, text[place]);
+    if found == k {
+        if doubled_at(text, place) {
+            return Next::To(place + 2);
+        }
+        return Next::Off;
+    }
+    if found == classes::WORD {
+        return next_if(bare_at(text, place, class), k);
+    }
+    Next::Off
 }
 
 // What the last token says of the text.

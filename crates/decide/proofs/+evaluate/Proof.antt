@@ -1,24 +1,27 @@
--- `decide::evaluate` meets its contract: the walk over the children keeps how many were asked and how many said evict, and each
--- child has fewer nodes than its parent. Assumes nothing.
-use mathlib.Core.Path.{_∙_}
+-- `decide::evaluate` meets its contract: the walk over the children keeps how many were asked and how many said evict, each child
+-- has fewer nodes than its parent, and a child of one node is a leaf. Assumes nothing.
+use mathlib.Core.Path.{_≡_, sym, _∙_}
+use mathlib.Core.Bool.{Bool, cond}
 use mathlib.Core.Logic.{⊎-elim}
-use Prim.Native.Nat.{ℕ, _+_, _≤_, _<_}
+use Prim.Native.Nat.{ℕ, suc, _+_, _-_, _≤_, _<_}
 use native.Mathlib.Omega.{arith}
+use lib.Dec.{leb}
+use lib.ListN.{getD}
 use borrow.Author.Needs.{needs}
+use borrow.Author.Tests.{le-leb, lt-leb}
 use borrow.Fn.Kinds.{In}
 use borrow.Fn.PlainCycle.{Measures, is, falls, and}
 use Rattle.image.specs.Decode.{cellAt}
 use Rattle.image.specs.FitLaws.{cell-size}
 use Rattle.image.specs.EncodeLaws.{size-pos}
-use Rattle.decide.specs.Subtree.{worldIn}
+use Rattle.decide.specs.Subtree.{Said}
 use Rattle.decide.specs.MeaningLaws.{no-leaf, no-join}
-use Rattle.decide.specs.SubtreeLaws.{Walks, walks-start, walks-next, Last, last, last-here, last-back, leaf-done, join-done}
-use Rattle.decide.specs.ReadingLaws.{cell-what, name-inside}
+use Rattle.decide.specs.SubtreeLaws.{Walks, walks-start, walks-next, Last, last, last-here, last-back, Answered, moved-few, leaf-done, one-done, join-done}
+use Rattle.decide.specs.ReadingLaws.{cell-what}
 use Rattle.decide.proofs.evaluate.Reads as evaluate
 use Rattle.decide.proofs.evaluate.Kinds as evaluate-kinds
 use Rattle.decide.proofs.+evaluate.Lts-evaluate as evaluate-lts
 use Rattle.decide.proofs.join_says.Reads as join-says-reads
-use Rattle.decide.proofs.leaf_says.Reads as leaf-says-reads
 use Rattle.image.proofs.valid.node_at.Reads as node-at-reads
 use Rattle.decide.proofs.+evaluate.{statement}
 use Rattle.decide.proofs.+evaluate.Tie.{close}
@@ -35,14 +38,14 @@ evaluate-below t =
 
 -- what the callees ask and give
 abbrev given : ℕ → evaluate-lts.Claims
-given t = (node-at-reads.Asked, node-at-reads.Learnt, leaf-says-reads.Asked, leaf-says-reads.Learnt, evaluate-below t, evaluate.Post, join-says-reads.Asked, join-says-reads.Learnt)
+given t = (node-at-reads.Asked, node-at-reads.Learnt, evaluate-below t, evaluate.Post, join-says-reads.Asked, join-says-reads.Learnt)
 
 abbrev evaluate-Inv-loop : evaluate-lts.InvT-loop
-evaluate-Inv-loop image n from size list view at kind arg end₀ yes₀ total₀ end yes' total =
-    (end ≤ at) × Walks (cellAt image n) (worldIn list view) from size end yes' total
+evaluate-Inv-loop image n from size says least at kind arg end₀ yes₀ total₀ end yes' total =
+    (total + end ≤ at) × (yes' ≤ total) × Walks (cellAt image n) (Said image n says least) from size end yes' total
 
 abbrev evaluate-μ-loop : evaluate-lts.MeasureT-loop
-evaluate-μ-loop image n from size list view at kind arg end₀ yes₀ total₀ end yes' total = end
+evaluate-μ-loop image n from size says least at kind arg end₀ yes₀ total₀ end yes' total = end
 
 -- at entry there is a node, and the last one is within the image
 the-node : (t : ℕ) (c : evaluate-lts.Start (given t) (evaluate-at t) evaluate.Post evaluate-Inv-loop evaluate-μ-loop) → (0 < c .args .size) × (c .args .from + c .args .size ≤ c .args .n)
@@ -59,24 +62,24 @@ evaluate-sub-at t c = omega (arith, the-node t (c .before .before))
 evaluate-node-at-requires : (t : ℕ) → evaluate-lts.Need-node-at-requires (given t) (evaluate-at t) evaluate.Post evaluate-Inv-loop evaluate-μ-loop
 evaluate-node-at-requires t c κs = (c .before .before .pre .1 .0 .long, omega (arith, the-node t (c .before .before)))
 
-evaluate-leaf-says-requires : (t : ℕ) → evaluate-lts.Need-leaf-says-requires (given t) (evaluate-at t) evaluate.Post evaluate-Inv-loop evaluate-μ-loop
-evaluate-leaf-says-requires t c κs =
-    let s = c .before .before .before .before in
-    (name-inside _ _ _ (c .before .node-at .ensures) (s .pre .1 .0 .names) (omega (arith, the-node t s)), s .pre .1 .1)
+evaluate-shared-slice-read-result : (t : ℕ) → evaluate-lts.Need-shared-slice-read-result (given t) (evaluate-at t) evaluate.Post evaluate-Inv-loop evaluate-μ-loop
+evaluate-shared-slice-read-result t c =
+    let s = c .before .before .before .before .before in
+    omega (arith, the-node t s, s .pre .1 .1)
 
 evaluate-loop-holds : (t : ℕ) → evaluate-lts.Need-loop-holds (given t) (evaluate-at t) evaluate.Post evaluate-Inv-loop evaluate-μ-loop
-evaluate-loop-holds t c = (omega arith, walks-start _ _ _ _)
+evaluate-loop-holds t c = (omega arith, omega arith, walks-start _ _ _ _)
 
 evaluate-sub-node-at : (t : ℕ) → evaluate-lts.Need-sub-node-at (given t) (evaluate-at t) evaluate.Post evaluate-Inv-loop evaluate-μ-loop
 evaluate-sub-node-at t c = omega arith
 
 -- the child that a turn asks
 the-last : (t : ℕ) (c : evaluate-lts.In-loop (given t) (evaluate-at t) evaluate.Post evaluate-Inv-loop evaluate-μ-loop) →
-    Last (cellAt (c .before .before .before .before .before .before .before .args .image .now) (c .before .before .before .before .before .before .before .args .n)) (c .before .before .before .before .before .before .before .args .from) (c .before .before .before .before .before .before .before .args .size) (c .before .loop .end) (c .before .loop .yes) (c .before .loop .total)
+    Last (cellAt (c .before .before .before .before .before .before .before .args .image .now) (c .before .before .before .before .before .before .before .args .n)) (c .before .before .before .before .before .before .before .args .from) (c .before .loop .end)
 the-last t c =
     let s = c .before .before .before .before .before .before .before in
     let d = c .before .before .before .before .node-at in
-    last _ _ _ _ (c .before .loop .inv .1) (s .pre .1 .0 .here) (λ l e. no-leaf (s .args .image .now) (s .args .n) (d .result .kind) (d .result .arg) (c .before .before .before .if1 .left) l (cell-what _ _ _ (d .ensures) ∙ e)) (c .loop-test .taken)
+    last _ _ _ _ (c .before .loop .inv .2) (s .pre .1 .0 .here) (λ l e. no-leaf (s .args .image .now) (s .args .n) (d .result .kind) (d .result .arg) (c .before .before .before .if1 .left) l (cell-what _ _ _ (d .ensures) ∙ e)) (c .loop-test .taken)
 
 evaluate-node-at-requires-2 : (t : ℕ) → evaluate-lts.Need-node-at-requires-2 (given t) (evaluate-at t) evaluate.Post evaluate-Inv-loop evaluate-μ-loop
 evaluate-node-at-requires-2 t c κs =
@@ -87,52 +90,84 @@ evaluate-node-at-requires-2 t c κs =
 the-back : (t : ℕ) (c : evaluate-lts.After-node-at2 (given t) (evaluate-at t) evaluate.Post evaluate-Inv-loop evaluate-μ-loop) → (0 < c .node-at2 .result .size) × (c .node-at2 .result .size + c .before .before .before .before .before .before .before .before .args .from ≤ c .before .before .loop .end)
 the-back t c = last-back (the-last t (c .before)) (cell-size _ _ _ (c .node-at2 .ensures))
 
+-- it ends before the last node, and fewer children are counted than there are nodes
+the-room : (t : ℕ) (c : evaluate-lts.After-node-at2 (given t) (evaluate-at t) evaluate.Post evaluate-Inv-loop evaluate-μ-loop) → (c .before .before .loop .end < c .before .before .before .before .before .before .before .before .args .n) × (c .before .before .loop .yes < c .before .before .before .before .before .before .before .before .args .n) × (c .before .before .loop .total < c .before .before .before .before .before .before .before .before .args .n)
+the-room t c =
+    let n = the-node t (c .before .before .before .before .before .before .before .before) in
+    let i = c .before .before .loop .inv in
+    (omega (arith, i .0), omega (arith, i .0, i .1), omega (arith, i .0))
+
 evaluate-sub-end : (t : ℕ) → evaluate-lts.Need-sub-end (given t) (evaluate-at t) evaluate.Post evaluate-Inv-loop evaluate-μ-loop
 evaluate-sub-end t c = omega (arith, the-back t c)
 
-evaluate-evaluate-requires : (t : ℕ) → evaluate-lts.Need-evaluate-requires (given t) (evaluate-at t) evaluate.Post evaluate-Inv-loop evaluate-μ-loop
-evaluate-evaluate-requires t c κs =
-    let s = c .before .before .before .before .before .before .before .before in
-    let i = c .before .before .loop .inv .0 in
-    let n = the-node t s in
-    let b = the-back t c in
-    let q : c .node-at2 .result .size < t = omega (arith, s .pre .0) in
-    (q, (record { long = s .pre .1 .0 .long; names = s .pre .1 .0 .names; within = omega arith; here = last-here (the-last t (c .before)) (cell-size _ _ _ (c .node-at2 .ensures)) }, s .pre .1 .1))
+evaluate-shared-slice-read-if4 : (t : ℕ) → evaluate-lts.Need-shared-slice-read-if4 (given t) (evaluate-at t) evaluate.Post evaluate-Inv-loop evaluate-μ-loop
+evaluate-shared-slice-read-if4 t c = omega (arith, the-room t (c .before .before) .0, c .before .before .before .before .before .before .before .before .before .before .pre .1 .1)
 
 evaluate-add-yes : (t : ℕ) → evaluate-lts.Need-add-yes (given t) (evaluate-at t) evaluate.Post evaluate-Inv-loop evaluate-μ-loop
-evaluate-add-yes t c =
-    omega (arith, the-last t (c .before .before .before) .few-evict, c .before .before .before .before .before .before .before .before .before .before .fits .size)
+evaluate-add-yes t c = omega (arith, the-room t (c .before .before .before) .1, c .before .before .before .before .before .before .before .before .before .before .before .fits .n)
+
+evaluate-evaluate-requires : (t : ℕ) → evaluate-lts.Need-evaluate-requires (given t) (evaluate-at t) evaluate.Post evaluate-Inv-loop evaluate-μ-loop
+evaluate-evaluate-requires t c κs =
+    let s = c .before .before .before .before .before .before .before .before .before in
+    let n = the-node t s in
+    let b = the-back t (c .before) in
+    let q : c .before .node-at2 .result .size < t = omega (arith, s .pre .0, c .before .before .before .loop .inv .0) in
+    (q, (record { long = s .pre .1 .0 .long; names = s .pre .1 .0 .names; within = omega (arith, the-room t (c .before) .0); here = last-here (the-last t (c .before .before)) (cell-size _ _ _ (c .before .node-at2 .ensures)) }, s .pre .1 .1))
+
+evaluate-add-yes-2 : (t : ℕ) → evaluate-lts.Need-add-yes-2 (given t) (evaluate-at t) evaluate.Post evaluate-Inv-loop evaluate-μ-loop
+evaluate-add-yes-2 t c = omega (arith, the-room t (c .before .before .before) .1, c .before .before .before .before .before .before .before .before .before .before .before .fits .n)
 
 evaluate-add-total : (t : ℕ) → evaluate-lts.Need-add-total (given t) (evaluate-at t) evaluate.Post evaluate-Inv-loop evaluate-μ-loop
-evaluate-add-total t c =
-    omega (arith, the-last t (c .before .before .before) .few, c .before .before .before .before .before .before .before .before .before .before .fits .size)
+evaluate-add-total t c = omega (arith, the-room t (c .before) .2, c .before .before .before .before .before .before .before .before .before .fits .n)
 
 evaluate-loop-less : (t : ℕ) → evaluate-lts.Need-loop-less (given t) (evaluate-at t) evaluate.Post evaluate-Inv-loop evaluate-μ-loop
-evaluate-loop-less t c = omega (arith, the-back t (c .before .before))
+evaluate-loop-less t c = omega (arith, the-back t (c .before))
+
+-- b is what the child says
+abbrev Child : (t : ℕ) → evaluate-lts.After-node-at2 (given t) (evaluate-at t) evaluate.Post evaluate-Inv-loop evaluate-μ-loop → Bool → Type 0
+Child t c b =
+    let a = c .before .before .before .before .before .before .before .before .args in
+    Answered (cellAt (a .image .now) (a .n)) (Said (a .image .now) (a .n) (a .says .now) (a .least)) (c .before .before .loop .end - c .node-at2 .result .size) (c .node-at2 .result .size) b
+
+-- a child of one node says what its number says
+the-leaf : (t : ℕ) (c : evaluate-lts.Then3 (given t) (evaluate-at t) evaluate.Post evaluate-Inv-loop evaluate-μ-loop) →
+    Child t (c .before) (leb (c .before .before .before .before .before .before .before .before .before .args .least) (getD (c .before .before .before .before .before .before .before .before .before .args .says .now) (c .before .before .before .loop .end - c .before .node-at2 .result .size) 0))
+the-leaf t c = one-done _ _ _ _ (c .if3 .taken) (λ l v e w. w _ (omega (arith, the-back t (c .before), the-room t (c .before) .0)) l e)
+
+-- a turn counts what the child says
+the-turn : (t : ℕ) (c : evaluate-lts.Joined3 (given t) (evaluate-at t) evaluate.Post evaluate-Inv-loop evaluate-μ-loop) →
+    (b : Bool) × Child t (c .before) b × (c .if3 .yes ≡ cond b (suc (c .before .before .before .loop .yes)) (c .before .before .before .loop .yes))
+the-turn t c =
+    ⊎-elim (λ v. (_, the-leaf t (record { before = c .before; if3 = v .0 }), rw (le-leb _ _ (v .2 .taken)) (omega arith)))
+    (⊎-elim (λ v. (_, the-leaf t (record { before = c .before; if3 = v .0 }), rw (lt-leb _ _ (v .2 .left)) (v .3)))
+    (⊎-elim (λ v. (_, v .1 .ensures, rw (v .2 .taken) (omega arith)))
+    (λ v. (_, v .1 .ensures, rw (v .2 .left) (v .3)))))
+    (c .if3 .came)
 
 evaluate-loop-again : (t : ℕ) → evaluate-lts.Need-loop-again (given t) (evaluate-at t) evaluate.Post evaluate-Inv-loop evaluate-μ-loop
 evaluate-loop-again t c =
     let i = c .before .before .before in
-    let e = c .before .evaluate in
-    (omega (arith, i .before .loop .inv .0), walks-next _ _ _ _ (i .before .loop .inv .1) (cell-size _ _ _ (c .before .before .node-at2 .ensures)) (i .loop-test .taken) (e .result) (e .ensures) (⊎-elim (λ v. rw (v .0 .taken) (omega arith)) (λ v. rw (v .0 .left) (omega arith)) (c .if3 .came)))
+    let (b, ans, counted) = the-turn t c in
+    (omega (arith, the-back t (c .before), i .loop .inv .0), omega (arith, moved-few b counted, i .loop .inv .1), walks-next _ _ _ _ (i .loop .inv .2) (cell-size _ _ _ (c .before .node-at2 .ensures)) (c .before .before .loop-test .taken) b ans counted)
 
 evaluate-join-says-requires : (t : ℕ) → evaluate-lts.Need-join-says-requires (given t) (evaluate-at t) evaluate.Post evaluate-Inv-loop evaluate-μ-loop
 evaluate-join-says-requires t c κs = search needs
 
 evaluate-returns : (t : ℕ) → evaluate-lts.Need-returns (given t) (evaluate-at t) evaluate.Post evaluate-Inv-loop evaluate-μ-loop
 evaluate-returns t c =
+    let s = c .before .before .before .before .before in
     let d = c .before .before .node-at in
-    leaf-done _ _ _ _ (cell-what _ _ _ (d .ensures)) (no-join _ _ (d .result .kind) _ (λ h i. omega arith)) (c .leaf-says .ensures)
+    leaf-done _ _ _ _ (cell-what _ _ _ (d .ensures)) (no-join _ _ (d .result .kind) _ (λ h i. omega arith)) (λ l v e w. w _ (omega (arith, the-node t s)) l (sym (cell-what _ _ _ (d .ensures)) ∙ e))
 
 evaluate-returns-2 : (t : ℕ) → evaluate-lts.Need-returns-2 (given t) (evaluate-at t) evaluate.Post evaluate-Inv-loop evaluate-μ-loop
 evaluate-returns-2 t c =
     let d = c .before .before .before .before .before .node-at in
-    join-done _ _ _ _ (c .before .before .loop .inv .1) (cell-what _ _ _ (d .ensures)) (no-leaf _ _ (d .result .kind) _ (c .before .before .before .before .if1 .left)) (c .before .loop-test .left) (c .join-says .ensures _ _)
+    join-done _ _ _ _ (c .before .before .loop .inv .2) (cell-what _ _ _ (d .ensures)) (no-leaf _ _ (d .result .kind) _ (c .before .before .before .before .if1 .left)) (c .before .loop-test .left) (c .join-says .ensures _ _)
 
 evaluate-returns-3 : (t : ℕ) → evaluate-lts.Need-returns-3 (given t) (evaluate-at t) evaluate.Post evaluate-Inv-loop evaluate-μ-loop
 evaluate-returns-3 t c =
     let d = c .before .before .node-at in
-    leaf-done _ _ _ _ (cell-what _ _ _ (d .ensures)) (no-join _ _ (d .result .kind) _ (λ h i. omega arith)) (λ l e. absurd (no-leaf _ _ (d .result .kind) _ (omega arith) l e))
+    leaf-done _ _ _ _ (cell-what _ _ _ (d .ensures)) (no-join _ _ (d .result .kind) _ (λ h i. omega arith)) (λ l v e w. absurd (no-leaf _ _ (d .result .kind) _ (omega arith) l e))
 
 pub +evaluate-spec : {M : Type 1} → statement M
 +evaluate-spec = close μ-evaluate λ t. evaluate-lts.spec (given t)
@@ -143,13 +178,15 @@ pub +evaluate-spec : {M : Type 1} → statement M
     (evaluate-add-at t)
     (evaluate-sub-at t)
     (evaluate-node-at-requires t)
-    (evaluate-leaf-says-requires t)
+    (evaluate-shared-slice-read-result t)
     (evaluate-loop-holds t)
     (evaluate-sub-node-at t)
     (evaluate-node-at-requires-2 t)
     (evaluate-sub-end t)
-    (evaluate-evaluate-requires t)
+    (evaluate-shared-slice-read-if4 t)
     (evaluate-add-yes t)
+    (evaluate-evaluate-requires t)
+    (evaluate-add-yes-2 t)
     (evaluate-add-total t)
     (evaluate-loop-less t)
     (evaluate-loop-again t)

@@ -7,9 +7,10 @@ use borrow.Author.Tests.{not-true, not-false}
 use Rattle.image.specs.Decode.{isSome, decode}
 use Rattle.stores.specs.Stores.{isTable, isList, entriesIn, twinOf}
 use Rattle.stores.specs.StoresLaws.{well-made-laid}
+use Rattle.stores.specs.BlankLaws.{zeros-blank}
 use Rattle.stores.specs.declared.Twin.the-variants.{No}
-use Rattle.decide.specs.Decide.{saying}
-use Rattle.decide.specs.InsideLaws.{image-inside}
+use Rattle.decide.specs.Decide.{saying, decideOf}
+use Rattle.decide.specs.InsideLaws.{image-inside, image-few}
 use Rattle.decide.specs.AnswerLaws.{refused-16, refused-17, refused-18, refused-19, answered}
 use Rattle.decide.proofs.decide.Statement.{statement}
 use Rattle.decide.proofs.decide.Tie as tie
@@ -21,10 +22,10 @@ the-image c = sym (c .before .is-image .ensures) ∙ not-false _ (c .if1 .left)
 the-table : (c : tie.Else2) → isTable (c .before .before .before .before .before .before .before .args .stores .now) ≡ true
 the-table c = sym (c .before .well-made .ensures) ∙ not-false _ (c .if2 .left)
 
-the-lone : (c : tie.After-enum-told) → twinOf (entriesIn (c .before .before .before .before .before .before .before .before .before .before .args .stores .now)) ≡ No
-the-lone c = sym (c .before .before .twin-of .ensures) ∙ c .enum-told .given .1
+the-lone : (c : tie.After-enum-told) → twinOf (entriesIn (c .before .before .before .before .before .before .before .before .before .before .before .before .args .stores .now)) ≡ No
+the-lone c = sym (c .before .before .twin-of .ensures .0) ∙ c .enum-told .given .1
 
-the-list : (c : tie.Else3) → isList (c .before .before .before .before .before .before .before .before .before .before .before .before .args .list .now) ≡ true
+the-list : (c : tie.Else3) → isList (c .before .before .before .before .before .before .before .before .before .before .before .before .before .before .args .list .now) ≡ true
 the-list c = sym (c .before .well-made2 .ensures) ∙ not-false _ (c .if3 .left)
 
 is-image-requires : tie.Need-is-image-requires
@@ -48,7 +49,7 @@ returns-2 c =
     c .refuse2 .ensures ∙ refused-17 _ _ _ _ (the-image (c .before .before .before)) (sym (c .before .before .well-made .ensures) ∙ not-true _ (c .before .if2 .taken))
 
 twin-of-requires : tie.Need-twin-of-requires
-twin-of-requires c κs = well-made-laid _ _ (the-table c)
+twin-of-requires c κs = (well-made-laid _ _ (the-table (c .before .before)), zeros-blank 512)
 
 enum-known-i : tie.Need-enum-known-i
 enum-known-i c = search needs
@@ -58,7 +59,7 @@ refuse-requires-3 c κs = search needs
 
 returns-3 : tie.Need-returns-3
 returns-3 c =
-    c .refuse3 .ensures ∙ refused-18 _ _ _ _ (the-image (c .before .before .before .before .before .before .before)) (the-table (c .before .before .before .before .before)) (sym (c .before .before .before .before .twin-of .ensures) ∙ c .before .before .i .given .1)
+    c .refuse3 .ensures ∙ refused-18 _ _ _ _ (the-image (c .before .before .before .before .before .before .before .before .before)) (the-table (c .before .before .before .before .before .before .before)) (sym (c .before .before .before .before .twin-of .ensures .0) ∙ c .before .before .i .given .1)
 
 enum-told : tie.Need-enum-told
 enum-told c = search needs
@@ -71,33 +72,37 @@ refuse-requires-4 c κs = search needs
 
 returns-4 : tie.Need-returns-4
 returns-4 c =
-    c .refuse4 .ensures ∙ refused-19 _ _ _ _ (the-image (c .before .before .before .before .before .before .before .before)) (the-table (c .before .before .before .before .before .before)) (the-lone (c .before .before .before)) (sym (c .before .before .well-made2 .ensures) ∙ not-true _ (c .before .if3 .taken))
+    c .refuse4 .ensures ∙ refused-19 _ _ _ _ (the-image (c .before .before .before .before .before .before .before .before .before .before)) (the-table (c .before .before .before .before .before .before .before .before)) (the-lone (c .before .before .before)) (sym (c .before .before .well-made2 .ensures) ∙ not-true _ (c .before .if3 .taken))
+
+mark-confirmed-requires : tie.Need-mark-confirmed-requires
+mark-confirmed-requires c κs =
+    let twin = c .before .before .before .before .before .before .before .twin-of in
+    (well-made-laid _ _ (the-table (c .before .before .before .before .before .before .before .before .before .before)), (well-made-laid _ _ (the-list (c .before .before .before)), (the-lone (c .before .before .before .before .before), (twin .ensures .1 (c .before .before .before .before .before .enum-told .given .1), zeros-blank 64))))
 
 le2-requires : tie.Need-le2-requires
 le2-requires c κs =
-    let s = c .before .before .before .before .before .before .before .before .before .before .before .before .args in
-    omega (arith, image-inside (s .image .now) (the-image (c .before .before .before .before .before .before .before)) refl .long)
+    omega (arith, image-inside _ (the-image (c .before .before .before .before .before .before .before .before .before .before .before .before .before)) refl .long)
 
 ready-count-requires : tie.Need-ready-count-requires
-ready-count-requires c κs =
-    let table = well-made-laid _ _ (the-table (c .before .before .before .before .before .before)) in
-    let list = well-made-laid _ _ (the-list (c .before)) in
-    search needs
+ready-count-requires c κs = well-made-laid _ _ (the-table (c .before .before .before .before .before .before .before .before .before .before .before .before .before))
 
-evaluate-requires : tie.Need-evaluate-requires
-evaluate-requires c κs =
-    let s = c .before .before .before .before .before .before .before .before .before .before .before .before .before .before .args in
-    (image-inside (s .image .now) (the-image (c .before .before .before .before .before .before .before .before .before)) (c .before .le2 .ensures .0), well-made-laid _ _ (the-list (c .before .before)))
+rule-says-requires : tie.Need-rule-says-requires
+rule-says-requires c κs =
+    let n = c .before .before .before .before .before .le2 .ensures .0 in
+    (image-inside _ (the-image (c .before .before .before .before .before .before .before .before .before .before .before .before .before .before .before .before .before .before .before)) n, (image-few _ (the-image (c .before .before .before .before .before .before .before .before .before .before .before .before .before .before .before .before .before .before .before)) n, record { table = well-made-laid _ _ (the-table (c .before .before .before .before .before .before .before .before .before .before .before .before .before .before .before .before .before)); listed = well-made-laid _ _ (the-list (c .before .before .before .before .before .before .before .before .before .before)); indexed = c .before .before .before .before .before .before .before .before .before .before .before .before .before .before .twin-of .ensures .1 (c .before .before .before .before .before .before .before .before .before .before .before .before .enum-told .given .1); marked = c .before .before .before .before .before .before .mark-confirmed .ensures }))
+
+-- the rule's own answer is what deciding gives
+the-answer : (c : tie.After-rule-says) →
+    let s = c .before .before .before .before .before .before .before .before .before .before .before .before .before .before .before .before .before .before .before .before .before .before .before .before .before .args in
+    saying (c .rule-says .result) ≡ decideOf (s .image .now) (s .stores .now) (s .age) (s .list .now)
+the-answer c =
+    answered _ _ _ _ (the-image (c .before .before .before .before .before .before .before .before .before .before .before .before .before .before .before .before .before .before .before .before)) (the-table (c .before .before .before .before .before .before .before .before .before .before .before .before .before .before .before .before .before .before)) (the-lone (c .before .before .before .before .before .before .before .before .before .before .before .before .before)) (the-list (c .before .before .before .before .before .before .before .before .before .before .before)) (c .before .before .before .before .before .before .le2 .ensures .0) (c .before .before .before .before .ready-count .ensures _ (c .before .before .before .before .before .before .before .mark-confirmed .ensures)) (c .rule-says .result) (c .rule-says .ensures)
 
 returns-5 : tie.Need-returns-5
-returns-5 c =
-    let e = c .before .evaluate in
-    sym (ap saying (c .if4 .taken)) ∙ answered _ _ _ _ (the-image (c .before .before .before .before .before .before .before .before .before .before .before)) (the-table (c .before .before .before .before .before .before .before .before .before)) (the-lone (c .before .before .before .before .before .before)) (the-list (c .before .before .before .before)) (c .before .before .before .le2 .ensures .0) (c .before .before .ready-count .ensures) (e .result) (e .ensures)
+returns-5 c = sym (ap saying (c .if4 .taken)) ∙ the-answer (c .before)
 
 returns-6 : tie.Need-returns-6
-returns-6 c =
-    let e = c .before .evaluate in
-    sym (ap saying (c .if4 .left)) ∙ answered _ _ _ _ (the-image (c .before .before .before .before .before .before .before .before .before .before .before)) (the-table (c .before .before .before .before .before .before .before .before .before)) (the-lone (c .before .before .before .before .before .before)) (the-list (c .before .before .before .before)) (c .before .before .before .le2 .ensures .0) (c .before .before .ready-count .ensures) (e .result) (e .ensures)
+returns-6 c = sym (ap saying (c .if4 .left)) ∙ the-answer (c .before)
 
 pub decide-spec : {M : Type 1} → statement M
 decide-spec =
@@ -117,8 +122,9 @@ decide-spec =
     well-made-requires-2
     refuse-requires-4
     returns-4
+    mark-confirmed-requires
     le2-requires
     ready-count-requires
-    evaluate-requires
+    rule-says-requires
     returns-5
     returns-6)

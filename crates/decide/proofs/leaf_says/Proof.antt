@@ -1,26 +1,21 @@
 -- `decide::leaf_says` meets its contract: each kind has its own line, and the other kinds are no leaf's. Assumes nothing.
 use native.Mathlib.Omega.{arith}
 use borrow.Author.Needs.{needs}
-use Rattle.stores.specs.WalkLaws.{entries-all}
 use Rattle.decide.specs.Subtree.{worldIn}
 use Rattle.decide.specs.MeaningLaws.{no-leaf, says-named, says-older, says-readable}
 use Rattle.decide.proofs.leaf_says.Statement.{statement}
 use Rattle.decide.proofs.leaf_says.Tie as tie
 
 name-of-requires : tie.Need-name-of-requires
-name-of-requires c κs = c .before .before .before .pre .0 (c .match .keys1)
+name-of-requires c κs = c .before .before .before .before .pre .0 (c .match .keys1)
 
-count-of-requires : tie.Need-count-of-requires
-count-of-requires c κs = search needs
-
-is-among-requires : tie.Need-is-among-requires
-is-among-requires c κs = search needs
+is-confirmed-requires : tie.Need-is-confirmed-requires
+is-confirmed-requires c κs = search needs
 
 returns : tie.Need-returns
 returns c = λ l e.
     let s = c .before .before .before .before .before .before in
-    let n = c .before .count-of in
-    says-named _ _ _ (worldIn (s .args .list .now) (s .args .view)) l e (c .before .before .before .match .keys1) (c .before .before .name-of .ensures) (rw (entries-all (s .args .list .now) (n .result) (s .pre .1) (n .ensures .0)) at (c .is-among .ensures))
+    says-named _ _ _ (worldIn (s .args .list .now) (s .args .view)) l e (c .before .before .match .keys1) (c .before .name-of .ensures) (c .is-confirmed .ensures)
 
 returns-2 : tie.Need-returns-2
 returns-2 c = λ l e. says-older _ _ _ _ l e (c .before .match .keys2)
@@ -34,11 +29,4 @@ returns-4 c = λ l e. absurd (no-leaf _ _ _ _ (omega arith) l e)
 pub leaf-says-spec : {M : Type 1} → statement M
 leaf-says-spec =
     tie.close
-    (tie.spec
-    name-of-requires
-    count-of-requires
-    is-among-requires
-    returns
-    returns-2
-    returns-3
-    returns-4)
+    (tie.spec name-of-requires is-confirmed-requires returns returns-2 returns-3 returns-4)

@@ -1,5 +1,5 @@
 -- `prune::of_verdict` meets its contract. Assumes nothing.
-use mathlib.Core.Path.{_≡_, sym, ap, _∙_}
+use mathlib.Core.Path.{sym, ap, _∙_}
 use borrow.Author.Needs.{needs}
 use Rattle.prune.specs.Answers.{ofVerdict}
 use Rattle.prune.proofs.of_verdict.Statement.{statement}

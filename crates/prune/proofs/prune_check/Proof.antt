@@ -1,5 +1,5 @@
 -- `prune::prune_check` meets its contract. Assumes nothing.
-use mathlib.Core.Path.{_≡_, ap, _∙_}
+use mathlib.Core.Path.{ap, _∙_}
 use borrow.Author.Needs.{needs}
 use Rattle.prune.specs.Answers.{ofVerdict}
 use Rattle.prune.proofs.prune_check.Statement.{statement}

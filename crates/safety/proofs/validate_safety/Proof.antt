@@ -5,7 +5,7 @@ use native.Mathlib.Omega.{arith}
 use borrow.Author.Needs.{needs}
 use borrow.Author.Tests.{not-true, not-false}
 use Rattle.image.specs.Decode.{isSome, decode}
-use Rattle.decide.specs.InsideLaws.{image-inside}
+use Rattle.decide.specs.InsideLaws.{image-inside, image-few}
 use Rattle.safety.specs.GuaranteeLaws.{with-checked}
 use Rattle.safety.specs.CheckLaws.{refused-16, checks-image}
 use Rattle.safety.proofs.validate_safety.Statement.{statement}
@@ -28,7 +28,9 @@ le2-requires : tie.Need-le2-requires
 le2-requires c κs = omega (arith, image-inside _ (the-image c) refl .long)
 
 check-rule-requires : tie.Need-check-rule-requires
-check-rule-requires c κs = image-inside _ (the-image (c .before)) (c .le2 .ensures .0)
+check-rule-requires c κs =
+    let i = the-image (c .before) in
+    (image-inside _ i (c .le2 .ensures .0), image-few _ i (c .le2 .ensures .0))
 
 returns-2 : tie.Need-returns-2
 returns-2 c = with-checked _ _ (checks-image _ (the-image (c .before .before)) (c .before .le2 .ensures .0) _ (c .check-rule .ensures))

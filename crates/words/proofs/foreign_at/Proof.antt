@@ -9,6 +9,7 @@ use Rattle.ascii.specs.Text.{runEnd}
 use Rattle.ascii.specs.TextLaws.{end-out, end-stop, end-on}
 use Rattle.ascii.specs.TestLaws.{is-so, is-not}
 use Rattle.words.specs.Token.{ascii}
+use Rattle.words.specs.ForeignLaws.{none-foreign}
 use Rattle.words.proofs.foreign_at.Statement.{statement}
 use Rattle.words.proofs.foreign_at.Tie as tie
 
@@ -17,6 +18,12 @@ Inv-loop text class i₀ i = runEnd ascii text i ≡ runEnd ascii text 0
 
 abbrev μ-loop : tie.MeasureT-loop
 μ-loop text class i₀ i = length text - i
+
+largest-from-requires : tie.Need-largest-from-requires Inv-loop μ-loop
+largest-from-requires c κs = search needs
+
+returns : tie.Need-returns Inv-loop μ-loop
+returns c = sym (none-foreign _ (omega arith))
 
 loop-holds : tie.Need-loop-holds Inv-loop μ-loop
 loop-holds c = refl
@@ -27,11 +34,11 @@ shared-slice-read-class-at c = omega arith
 class-at-requires : tie.Need-class-at-requires Inv-loop μ-loop
 class-at-requires c κs = search needs
 
-returns : tie.Need-returns Inv-loop μ-loop
+returns-2 : tie.Need-returns-2 Inv-loop μ-loop
 unfolding ascii
-returns c =
+returns-2 c =
     let l = c .before .before .before .before .loop in
-    sym (end-stop _ _ (l .i) (omega arith) (ap not (is-so (c .before .class-at .ensures) refl (c .if1 .taken)))) ∙ l .inv
+    sym (end-stop _ _ (l .i) (omega arith) (ap not (is-so (c .before .class-at .ensures) refl (c .if2 .taken)))) ∙ l .inv
 
 add-i : tie.Need-add-i Inv-loop μ-loop
 add-i c = omega arith
@@ -43,10 +50,10 @@ loop-again : tie.Need-loop-again Inv-loop μ-loop
 unfolding ascii
 loop-again c =
     let l = c .before .before .before .before .loop in
-    sym (end-on _ _ (l .i) (omega arith) (ap not (is-not (c .before .class-at .ensures) refl (c .if1 .left)))) ∙ l .inv
+    sym (end-on _ _ (l .i) (omega arith) (ap not (is-not (c .before .class-at .ensures) refl (c .if2 .left)))) ∙ l .inv
 
-returns-2 : tie.Need-returns-2 Inv-loop μ-loop
-returns-2 c = let l = c .before .loop in sym (end-out _ _ (l .i) (omega arith)) ∙ l .inv
+returns-3 : tie.Need-returns-3 Inv-loop μ-loop
+returns-3 c = let l = c .before .loop in sym (end-out _ _ (l .i) (omega arith)) ∙ l .inv
 
 pub foreign-at-spec : {M : Type 1} → statement M
 foreign-at-spec =
@@ -54,11 +61,13 @@ foreign-at-spec =
     (tie.spec
     Inv-loop
     μ-loop
+    largest-from-requires
+    returns
     loop-holds
     shared-slice-read-class-at
     class-at-requires
-    returns
+    returns-2
     add-i
     loop-less
     loop-again
-    returns-2)
+    returns-3)

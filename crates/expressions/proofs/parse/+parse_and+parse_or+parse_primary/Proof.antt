@@ -11,7 +11,8 @@ use Rattle.words.specs.Token.{tokensFrom}
 use Rattle.grammar.specs.Grammar.{andSign, orSign, commaSign, closeSign, Got, orIn, orMore, andIn, andMore}
 use Rattle.grammar.specs.Heads.{leafOf, joinOf, headNext, left}
 use Rattle.expressions.specs.Parses.{arrays}
-use Rattle.grammar.specs.TokenListLaws.{first-place, after-off, and-signed, or-signed, comma-signed, close-signed}
+use Rattle.grammar.specs.TokenListLaws.{first-place, after-off, comma-signed, close-signed}
+use Rattle.grammar.specs.BehindLaws.{test-off, test-on}
 use Rattle.grammar.specs.HeadLaws.{head-is, head-ahead}
 use Rattle.expressions.specs.ArrayLaws.{front, still, long-after}
 use Rattle.image.specs.EncodeLaws.{leaf-kind, join-kind}
@@ -60,7 +61,9 @@ use Rattle.expressions.proofs.parse.kept.Reads as kept-reads
 use Rattle.expressions.proofs.parse.push.Reads as push-reads
 use Rattle.expressions.proofs.parse.put_name.Reads as put-name-reads
 use Rattle.expressions.proofs.parse.refuse.Reads as refuse-reads
+use Rattle.words.proofs.bracket_at.Reads as bracket-at-reads
 use Rattle.words.proofs.place_of.Reads as place-of-reads
+use Rattle.words.proofs.sign_at.Reads as sign-at-reads
 use Rattle.words.proofs.token_at.Reads as token-at-reads
 use Rattle.expressions.proofs.parse.+parse_and+parse_or+parse_primary.{statement}
 use Rattle.expressions.proofs.parse.+parse_and+parse_or+parse_primary.Tie.{close}
@@ -108,7 +111,7 @@ abbrev parse-and-μ-loop : parse-and-lts.MeasureT-loop
 parse-and-μ-loop text at depth tags₀ args₀ names₀ n m class e k q at1₀ n1₀ m1₀ tags args names at1 n1 m1 = left text at1
 
 abbrev parse-and-calls : ℕ → parse-and-lts.Claims
-parse-and-calls t = (parse-primary-below t, parse-primary.Post, token-at-reads.Asked, token-at-reads.Learnt, kept-reads.Asked, kept-reads.Learnt, push-reads.Asked, push-reads.Learnt)
+parse-and-calls t = (parse-primary-below t, parse-primary.Post, sign-at-reads.Asked, sign-at-reads.Learnt, kept-reads.Asked, kept-reads.Learnt, push-reads.Asked, push-reads.Learnt)
 
 parse-and-parse-primary-requires : (t : ℕ) → parse-and-lts.Need-parse-primary-requires (parse-and-calls t) (parse-and-at t) parse-and.Post parse-and-Inv-loop parse-and-μ-loop
 parse-and-parse-primary-requires t c κs = search needs
@@ -141,41 +144,44 @@ parse-and-loop-holds t c =
     let at-entry = at-parse-primary .before .before .before .before .before .before .before .before in
     let s = at-entry .args .text .now in let at = at-entry .args .at in let d = at-entry .args .depth in begin (and-level s d at) (omega (arith, at-entry .pre .1)) (at-entry .pre .1 .long) (long-after (at-entry .pre .1 .long) (at-parse-primary .parse-primary .kept .1 .1 .1 .0) (at-parse-primary .parse-primary .kept .1 .1 .1 .1 .0) (at-parse-primary .parse-primary .kept .1 .1 .1 .1 .1 .0)) (omega arith) (at-parse-primary .parse-primary .ensures .done _ _ _ (at-first .first .given .1))
 
-parse-and-token-at-requires : (t : ℕ) → parse-and-lts.Need-token-at-requires (parse-and-calls t) (parse-and-at t) parse-and.Post parse-and-Inv-loop parse-and-μ-loop
-parse-and-token-at-requires t c κs = search needs
+parse-and-sign-at-requires : (t : ℕ) → parse-and-lts.Need-sign-at-requires (parse-and-calls t) (parse-and-at t) parse-and.Post parse-and-Inv-loop parse-and-μ-loop
+parse-and-sign-at-requires t c κs = search needs
 
 parse-and-enum-known-next : (t : ℕ) → parse-and-lts.Need-enum-known-next (parse-and-calls t) (parse-and-at t) parse-and.Post parse-and-Inv-loop parse-and-μ-loop
 parse-and-enum-known-next t c = search needs
 
+parse-and-enum-told-2 : (t : ℕ) → parse-and-lts.Need-enum-told-2 (parse-and-calls t) (parse-and-at t) parse-and.Post parse-and-Inv-loop parse-and-μ-loop
+parse-and-enum-told-2 t c = search needs
+
 parse-and-same-length-4 : (t : ℕ) → parse-and-lts.Need-same-length-4 (parse-and-calls t) (parse-and-at t) parse-and.Post parse-and-Inv-loop parse-and-μ-loop
 parse-and-same-length-4 t c =
-    let at-loop = c .before .before in
+    let at-loop = c .before .before .before in
     let at-parse-primary = at-loop .before .before .before .before .before .before .before .before .before .before in
     let at-entry = at-parse-primary .before .before .before .before .before .before .before .before in
     at-loop .loop .inv .long .tags ∙ at-parse-primary .parse-primary .kept .1 .1 .1 .0 ∙ sym (at-entry .pre .1 .long .tags)
 
 parse-and-same-length-5 : (t : ℕ) → parse-and-lts.Need-same-length-5 (parse-and-calls t) (parse-and-at t) parse-and.Post parse-and-Inv-loop parse-and-μ-loop
 parse-and-same-length-5 t c =
-    let at-loop = c .before .before in
+    let at-loop = c .before .before .before in
     let at-parse-primary = at-loop .before .before .before .before .before .before .before .before .before .before in
     let at-entry = at-parse-primary .before .before .before .before .before .before .before .before in
     at-loop .loop .inv .long .args ∙ at-parse-primary .parse-primary .kept .1 .1 .1 .0 ∙ sym (at-entry .pre .1 .long .args)
 
 parse-and-same-length-6 : (t : ℕ) → parse-and-lts.Need-same-length-6 (parse-and-calls t) (parse-and-at t) parse-and.Post parse-and-Inv-loop parse-and-μ-loop
 parse-and-same-length-6 t c =
-    let at-loop = c .before .before in
+    let at-loop = c .before .before .before in
     let at-parse-primary = at-loop .before .before .before .before .before .before .before .before .before .before in
     let at-entry = at-parse-primary .before .before .before .before .before .before .before .before in
     at-loop .loop .inv .long .names ∙ at-parse-primary .parse-primary .kept .1 .1 .1 .0 ∙ sym (at-entry .pre .1 .long .names)
 
 parse-and-returns-2 : (t : ℕ) → parse-and-lts.Need-returns-2 (parse-and-calls t) (parse-and-at t) parse-and.Post parse-and-Inv-loop parse-and-μ-loop
 parse-and-returns-2 t c =
-    let at-token-at = c .before in
-    let at-loop = at-token-at .before in
+    let at-sign-at = c .before .before in
+    let at-loop = at-sign-at .before in
     let at-first = at-loop .before .before in
     let at-parse-primary = at-first .before .before .before .before .before .before .before .before in
     let at-entry = at-parse-primary .before .before .before .before .before .before .before .before in
-    let s = at-entry .args .text .now in let at = at-entry .args .at in let d = at-entry .args .depth in let f = at-entry .pre .1 in gave-done (rebase (front ((at-parse-primary .parse-primary .ensures .done _ _ _ (at-first .first .given .1)) .holds) (omega (arith, f)) (omega (arith, f)) (omega (arith, f))) (stop (and-level s d at) (no-sign s _ (at-token-at .token-at .ensures) andSign tt (c .match2 .keys2)) (at-loop .loop .inv)))
+    let s = at-entry .args .text .now in let at = at-entry .args .at in let d = at-entry .args .depth in let f = at-entry .pre .1 in gave-done (rebase (front ((at-parse-primary .parse-primary .ensures .done _ _ _ (at-first .first .given .1)) .holds) (omega (arith, f)) (omega (arith, f)) (omega (arith, f))) (stop (and-level s d at) (test-off s _ andSign (at-sign-at .sign-at .ensures) (omega arith) (omega arith) (c .enum-told2 .given .1)) (at-loop .loop .inv)))
 
 parse-and-kept-requires : (t : ℕ) → parse-and-lts.Need-kept-requires (parse-and-calls t) (parse-and-at t) parse-and.Post parse-and-Inv-loop parse-and-μ-loop
 parse-and-kept-requires t c κs =
@@ -188,17 +194,17 @@ parse-and-parse-primary-requires-2 : (t : ℕ) → parse-and-lts.Need-parse-prim
 parse-and-parse-primary-requires-2 t c κs =
     let at-kept = c .before .before .before in
     let at-next = at-kept .before .before .before in
-    let at-token-at = at-next .before .before in
-    let at-loop = at-token-at .before in
+    let at-sign-at = at-next .before .before in
+    let at-loop = at-sign-at .before in
     let at-parse-primary = at-loop .before .before .before .before .before .before .before .before .before .before in
     let at-entry = at-parse-primary .before .before .before .before .before .before .before .before in
-    omega (arith, at-entry .pre .0, at-entry .pre .1, at-loop .loop .inv, at-parse-primary .parse-primary .kept .1 .1 .1 .0, at-parse-primary .parse-primary .kept .1 .1 .1 .1 .0, at-parse-primary .parse-primary .kept .1 .1 .1 .1 .1 .0, at-kept .kept .ensures, (and-signed (at-entry .args .text .now) _ (sym (at-token-at .token-at .ensures) ∙ at-next .next .given .1)) .bounds)
+    omega (arith, at-entry .pre .0, at-entry .pre .1, at-loop .loop .inv, at-parse-primary .parse-primary .kept .1 .1 .1 .0, at-parse-primary .parse-primary .kept .1 .1 .1 .1 .0, at-parse-primary .parse-primary .kept .1 .1 .1 .1 .1 .0, at-kept .kept .ensures, (test-on (at-entry .args .text .now) _ andSign (at-sign-at .sign-at .ensures) (at-next .next .given .1)) .bounds)
 
 parse-and-enum-known-right : (t : ℕ) → parse-and-lts.Need-enum-known-right (parse-and-calls t) (parse-and-at t) parse-and.Post parse-and-Inv-loop parse-and-μ-loop
 parse-and-enum-known-right t c = search needs
 
-parse-and-enum-told-2 : (t : ℕ) → parse-and-lts.Need-enum-told-2 (parse-and-calls t) (parse-and-at t) parse-and.Post parse-and-Inv-loop parse-and-μ-loop
-parse-and-enum-told-2 t c = search needs
+parse-and-enum-told-3 : (t : ℕ) → parse-and-lts.Need-enum-told-3 (parse-and-calls t) (parse-and-at t) parse-and.Post parse-and-Inv-loop parse-and-μ-loop
+parse-and-enum-told-3 t c = search needs
 
 parse-and-same-length-7 : (t : ℕ) → parse-and-lts.Need-same-length-7 (parse-and-calls t) (parse-and-at t) parse-and.Post parse-and-Inv-loop parse-and-μ-loop
 parse-and-same-length-7 t c =
@@ -228,10 +234,10 @@ parse-and-returns-3 : (t : ℕ) → parse-and-lts.Need-returns-3 (parse-and-call
 parse-and-returns-3 t c =
     let at-parse-primary2 = c .before .before .before .before .before .before .before .before in
     let at-next = at-parse-primary2 .before .before .before .before .before .before .before in
-    let at-token-at = at-next .before .before in
-    let at-loop = at-token-at .before in
+    let at-sign-at = at-next .before .before in
+    let at-loop = at-sign-at .before in
     let at-entry = at-loop .before .before .before .before .before .before .before .before .before .before .before .before .before .before .before .before .before .before in
-    let s = at-entry .args .text .now in let at = at-entry .args .at in let d = at-entry .args .depth in let g = (and-signed (at-entry .args .text .now) _ (sym (at-token-at .token-at .ensures) ∙ at-next .next .given .1)) in gave-refused (c .enum-told2 .given .1) (right-refused (and-level s d at) (g .sign) (g .bounds .2) (at-loop .loop .inv) (omega arith) (at-parse-primary2 .parse-primary2 .ensures .refused _ (c .enum-told2 .given .1)))
+    let s = at-entry .args .text .now in let at = at-entry .args .at in let d = at-entry .args .depth in let g = (test-on (at-entry .args .text .now) _ andSign (at-sign-at .sign-at .ensures) (at-next .next .given .1)) in gave-refused (c .enum-told3 .given .1) (right-refused (and-level s d at) (g .sign) (g .bounds .2) (at-loop .loop .inv) (omega arith) (at-parse-primary2 .parse-primary2 .ensures .refused _ (c .enum-told3 .given .1)))
 
 parse-and-sub-push : (t : ℕ) → parse-and-lts.Need-sub-push (parse-and-calls t) (parse-and-at t) parse-and.Post parse-and-Inv-loop parse-and-μ-loop
 parse-and-sub-push t c =
@@ -239,11 +245,11 @@ parse-and-sub-push t c =
     let at-parse-primary2 = at-right .before .before .before .before .before .before .before .before in
     let at-kept = at-parse-primary2 .before .before .before .before in
     let at-next = at-kept .before .before .before in
-    let at-token-at = at-next .before .before in
-    let at-loop = at-token-at .before in
+    let at-sign-at = at-next .before .before in
+    let at-loop = at-sign-at .before in
     let at-parse-primary = at-loop .before .before .before .before .before .before .before .before .before .before in
     let at-entry = at-parse-primary .before .before .before .before .before .before .before .before in
-    omega (arith, at-entry .pre .1, at-loop .loop .inv, at-parse-primary .parse-primary .kept .1 .1 .1 .0, at-parse-primary .parse-primary .kept .1 .1 .1 .1 .0, at-parse-primary .parse-primary .kept .1 .1 .1 .1 .1 .0, at-kept .kept .ensures, (and-signed (at-entry .args .text .now) _ (sym (at-token-at .token-at .ensures) ∙ at-next .next .given .1)) .bounds, (at-parse-primary2 .parse-primary2 .ensures .done _ _ _ (at-right .right .given .1)), at-parse-primary2 .parse-primary2 .kept .1 .1 .1 .0, at-parse-primary2 .parse-primary2 .kept .1 .1 .1 .1 .0, at-parse-primary2 .parse-primary2 .kept .1 .1 .1 .1 .1 .0)
+    omega (arith, at-entry .pre .1, at-loop .loop .inv, at-parse-primary .parse-primary .kept .1 .1 .1 .0, at-parse-primary .parse-primary .kept .1 .1 .1 .1 .0, at-parse-primary .parse-primary .kept .1 .1 .1 .1 .1 .0, at-kept .kept .ensures, (test-on (at-entry .args .text .now) _ andSign (at-sign-at .sign-at .ensures) (at-next .next .given .1)) .bounds, (at-parse-primary2 .parse-primary2 .ensures .done _ _ _ (at-right .right .given .1)), at-parse-primary2 .parse-primary2 .kept .1 .1 .1 .0, at-parse-primary2 .parse-primary2 .kept .1 .1 .1 .1 .0, at-parse-primary2 .parse-primary2 .kept .1 .1 .1 .1 .1 .0)
 
 parse-and-add-push : (t : ℕ) → parse-and-lts.Need-add-push (parse-and-calls t) (parse-and-at t) parse-and.Post parse-and-Inv-loop parse-and-μ-loop
 parse-and-add-push t c =
@@ -251,11 +257,11 @@ parse-and-add-push t c =
     let at-parse-primary2 = at-right .before .before .before .before .before .before .before .before in
     let at-kept = at-parse-primary2 .before .before .before .before in
     let at-next = at-kept .before .before .before in
-    let at-token-at = at-next .before .before in
-    let at-loop = at-token-at .before in
+    let at-sign-at = at-next .before .before in
+    let at-loop = at-sign-at .before in
     let at-parse-primary = at-loop .before .before .before .before .before .before .before .before .before .before in
     let at-entry = at-parse-primary .before .before .before .before .before .before .before .before in
-    omega (arith, at-entry .pre .1, at-loop .loop .inv, at-parse-primary .parse-primary .kept .1 .1 .1 .0, at-parse-primary .parse-primary .kept .1 .1 .1 .1 .0, at-parse-primary .parse-primary .kept .1 .1 .1 .1 .1 .0, at-kept .kept .ensures, (and-signed (at-entry .args .text .now) _ (sym (at-token-at .token-at .ensures) ∙ at-next .next .given .1)) .bounds, (at-parse-primary2 .parse-primary2 .ensures .done _ _ _ (at-right .right .given .1)), at-parse-primary2 .parse-primary2 .kept .1 .1 .1 .0, at-parse-primary2 .parse-primary2 .kept .1 .1 .1 .1 .0, at-parse-primary2 .parse-primary2 .kept .1 .1 .1 .1 .1 .0)
+    omega (arith, at-entry .pre .1, at-loop .loop .inv, at-parse-primary .parse-primary .kept .1 .1 .1 .0, at-parse-primary .parse-primary .kept .1 .1 .1 .1 .0, at-parse-primary .parse-primary .kept .1 .1 .1 .1 .1 .0, at-kept .kept .ensures, (test-on (at-entry .args .text .now) _ andSign (at-sign-at .sign-at .ensures) (at-next .next .given .1)) .bounds, (at-parse-primary2 .parse-primary2 .ensures .done _ _ _ (at-right .right .given .1)), at-parse-primary2 .parse-primary2 .kept .1 .1 .1 .0, at-parse-primary2 .parse-primary2 .kept .1 .1 .1 .1 .0, at-parse-primary2 .parse-primary2 .kept .1 .1 .1 .1 .1 .0)
 
 parse-and-push-requires : (t : ℕ) → parse-and-lts.Need-push-requires (parse-and-calls t) (parse-and-at t) parse-and.Post parse-and-Inv-loop parse-and-μ-loop
 parse-and-push-requires t c κs =
@@ -263,11 +269,11 @@ parse-and-push-requires t c κs =
     let at-parse-primary2 = at-right .before .before .before .before .before .before .before .before in
     let at-kept = at-parse-primary2 .before .before .before .before in
     let at-next = at-kept .before .before .before in
-    let at-token-at = at-next .before .before in
-    let at-loop = at-token-at .before in
+    let at-sign-at = at-next .before .before in
+    let at-loop = at-sign-at .before in
     let at-parse-primary = at-loop .before .before .before .before .before .before .before .before .before .before in
     let at-entry = at-parse-primary .before .before .before .before .before .before .before .before in
-    omega (arith, at-entry .pre .1, at-loop .loop .inv, at-parse-primary .parse-primary .kept .1 .1 .1 .0, at-parse-primary .parse-primary .kept .1 .1 .1 .1 .0, at-parse-primary .parse-primary .kept .1 .1 .1 .1 .1 .0, at-kept .kept .ensures, (and-signed (at-entry .args .text .now) _ (sym (at-token-at .token-at .ensures) ∙ at-next .next .given .1)) .bounds, (at-parse-primary2 .parse-primary2 .ensures .done _ _ _ (at-right .right .given .1)), at-parse-primary2 .parse-primary2 .kept .1 .1 .1 .0, at-parse-primary2 .parse-primary2 .kept .1 .1 .1 .1 .0, at-parse-primary2 .parse-primary2 .kept .1 .1 .1 .1 .1 .0)
+    omega (arith, at-entry .pre .1, at-loop .loop .inv, at-parse-primary .parse-primary .kept .1 .1 .1 .0, at-parse-primary .parse-primary .kept .1 .1 .1 .1 .0, at-parse-primary .parse-primary .kept .1 .1 .1 .1 .1 .0, at-kept .kept .ensures, (test-on (at-entry .args .text .now) _ andSign (at-sign-at .sign-at .ensures) (at-next .next .given .1)) .bounds, (at-parse-primary2 .parse-primary2 .ensures .done _ _ _ (at-right .right .given .1)), at-parse-primary2 .parse-primary2 .kept .1 .1 .1 .0, at-parse-primary2 .parse-primary2 .kept .1 .1 .1 .1 .0, at-parse-primary2 .parse-primary2 .kept .1 .1 .1 .1 .1 .0)
 
 parse-and-add-n1 : (t : ℕ) → parse-and-lts.Need-add-n1 (parse-and-calls t) (parse-and-at t) parse-and.Post parse-and-Inv-loop parse-and-μ-loop
 parse-and-add-n1 t c =
@@ -275,20 +281,20 @@ parse-and-add-n1 t c =
     let at-parse-primary2 = at-right .before .before .before .before .before .before .before .before in
     let at-kept = at-parse-primary2 .before .before .before .before in
     let at-next = at-kept .before .before .before in
-    let at-token-at = at-next .before .before in
-    let at-loop = at-token-at .before in
+    let at-sign-at = at-next .before .before in
+    let at-loop = at-sign-at .before in
     let at-parse-primary = at-loop .before .before .before .before .before .before .before .before .before .before in
     let at-entry = at-parse-primary .before .before .before .before .before .before .before .before in
-    omega (arith, at-entry .pre .1, at-loop .loop .inv, at-parse-primary .parse-primary .kept .1 .1 .1 .0, at-parse-primary .parse-primary .kept .1 .1 .1 .1 .0, at-parse-primary .parse-primary .kept .1 .1 .1 .1 .1 .0, at-kept .kept .ensures, (and-signed (at-entry .args .text .now) _ (sym (at-token-at .token-at .ensures) ∙ at-next .next .given .1)) .bounds, (at-parse-primary2 .parse-primary2 .ensures .done _ _ _ (at-right .right .given .1)), at-parse-primary2 .parse-primary2 .kept .1 .1 .1 .0, at-parse-primary2 .parse-primary2 .kept .1 .1 .1 .1 .0, at-parse-primary2 .parse-primary2 .kept .1 .1 .1 .1 .1 .0)
+    omega (arith, at-entry .pre .1, at-loop .loop .inv, at-parse-primary .parse-primary .kept .1 .1 .1 .0, at-parse-primary .parse-primary .kept .1 .1 .1 .1 .0, at-parse-primary .parse-primary .kept .1 .1 .1 .1 .1 .0, at-kept .kept .ensures, (test-on (at-entry .args .text .now) _ andSign (at-sign-at .sign-at .ensures) (at-next .next .given .1)) .bounds, (at-parse-primary2 .parse-primary2 .ensures .done _ _ _ (at-right .right .given .1)), at-parse-primary2 .parse-primary2 .kept .1 .1 .1 .0, at-parse-primary2 .parse-primary2 .kept .1 .1 .1 .1 .0, at-parse-primary2 .parse-primary2 .kept .1 .1 .1 .1 .1 .0)
 
 parse-and-loop-less : (t : ℕ) → parse-and-lts.Need-loop-less (parse-and-calls t) (parse-and-at t) parse-and.Post parse-and-Inv-loop parse-and-μ-loop
 parse-and-loop-less t c =
     let at-right = c .before .before .before .before .before .before .before .before in
     let at-parse-primary2 = at-right .before .before .before .before .before .before .before .before in
     let at-next = at-parse-primary2 .before .before .before .before .before .before .before in
-    let at-token-at = at-next .before .before in
-    let at-entry = at-token-at .before .before .before .before .before .before .before .before .before .before .before .before .before .before .before .before .before .before .before in
-    omega (arith, (and-signed (at-entry .args .text .now) _ (sym (at-token-at .token-at .ensures) ∙ at-next .next .given .1)) .bounds, (at-parse-primary2 .parse-primary2 .ensures .done _ _ _ (at-right .right .given .1)) .fewer)
+    let at-sign-at = at-next .before .before in
+    let at-entry = at-sign-at .before .before .before .before .before .before .before .before .before .before .before .before .before .before .before .before .before .before .before in
+    omega (arith, (test-on (at-entry .args .text .now) _ andSign (at-sign-at .sign-at .ensures) (at-next .next .given .1)) .bounds, (at-parse-primary2 .parse-primary2 .ensures .done _ _ _ (at-right .right .given .1)) .fewer)
 
 parse-and-loop-again : (t : ℕ) → parse-and-lts.Need-loop-again (parse-and-calls t) (parse-and-at t) parse-and.Post parse-and-Inv-loop parse-and-μ-loop
 parse-and-loop-again t c =
@@ -297,11 +303,11 @@ parse-and-loop-again t c =
     let at-parse-primary2 = at-right .before .before .before .before .before .before .before .before in
     let at-kept = at-parse-primary2 .before .before .before .before in
     let at-next = at-kept .before .before .before in
-    let at-token-at = at-next .before .before in
-    let at-loop = at-token-at .before in
+    let at-sign-at = at-next .before .before in
+    let at-loop = at-sign-at .before in
     let at-parse-primary = at-loop .before .before .before .before .before .before .before .before .before .before in
     let at-entry = at-parse-primary .before .before .before .before .before .before .before .before in
-    let s = at-entry .args .text .now in let at = at-entry .args .at in let d = at-entry .args .depth in let g = (and-signed (at-entry .args .text .now) _ (sym (at-token-at .token-at .ensures) ∙ at-next .next .given .1)) in let r = (at-parse-primary2 .parse-primary2 .ensures .done _ _ _ (at-right .right .given .1)) in let lb = (long-after (at-entry .pre .1 .long) (at-parse-primary .parse-primary .kept .1 .1 .1 .0) (at-parse-primary .parse-primary .kept .1 .1 .1 .1 .0) (at-parse-primary .parse-primary .kept .1 .1 .1 .1 .1 .0)) in let la = (still (at-loop .loop .inv .long) (at-parse-primary2 .parse-primary2 .kept .1 .1 .1 .0) (at-parse-primary2 .parse-primary2 .kept .1 .1 .1 .1 .0) (at-parse-primary2 .parse-primary2 .kept .1 .1 .1 .1 .1 .0)) in turn (and-level s d at) (g .sign) (g .bounds .2) (g .bounds .0) (omega (arith, at-entry .pre .1, at-parse-primary .parse-primary .kept .1 .1 .1 .0)) lb (at-loop .loop .inv) (at-kept .kept .ensures) (omega arith) r la (omega (arith, at-entry .pre .1, at-loop .loop .inv, at-parse-primary .parse-primary .kept .1 .1 .1 .0, at-parse-primary .parse-primary .kept .1 .1 .1 .1 .0, at-parse-primary .parse-primary .kept .1 .1 .1 .1 .1 .0, at-kept .kept .ensures, (and-signed (at-entry .args .text .now) _ (sym (at-token-at .token-at .ensures) ∙ at-next .next .given .1)) .bounds, (at-parse-primary2 .parse-primary2 .ensures .done _ _ _ (at-right .right .given .1)), la)) (at-push .push .ensures .0) (at-push .push .ensures .1) refl
+    let s = at-entry .args .text .now in let at = at-entry .args .at in let d = at-entry .args .depth in let g = (test-on (at-entry .args .text .now) _ andSign (at-sign-at .sign-at .ensures) (at-next .next .given .1)) in let r = (at-parse-primary2 .parse-primary2 .ensures .done _ _ _ (at-right .right .given .1)) in let lb = (long-after (at-entry .pre .1 .long) (at-parse-primary .parse-primary .kept .1 .1 .1 .0) (at-parse-primary .parse-primary .kept .1 .1 .1 .1 .0) (at-parse-primary .parse-primary .kept .1 .1 .1 .1 .1 .0)) in let la = (still (at-loop .loop .inv .long) (at-parse-primary2 .parse-primary2 .kept .1 .1 .1 .0) (at-parse-primary2 .parse-primary2 .kept .1 .1 .1 .1 .0) (at-parse-primary2 .parse-primary2 .kept .1 .1 .1 .1 .1 .0)) in turn (and-level s d at) (g .sign) (g .bounds .2) (g .bounds .0) (omega (arith, at-entry .pre .1, at-parse-primary .parse-primary .kept .1 .1 .1 .0)) lb (at-loop .loop .inv) (at-kept .kept .ensures) (omega arith) r la (omega (arith, at-entry .pre .1, at-loop .loop .inv, at-parse-primary .parse-primary .kept .1 .1 .1 .0, at-parse-primary .parse-primary .kept .1 .1 .1 .1 .0, at-parse-primary .parse-primary .kept .1 .1 .1 .1 .1 .0, at-kept .kept .ensures, (test-on (at-entry .args .text .now) _ andSign (at-sign-at .sign-at .ensures) (at-next .next .given .1)) .bounds, (at-parse-primary2 .parse-primary2 .ensures .done _ _ _ (at-right .right .given .1)), la)) (at-push .push .ensures .0) (at-push .push .ensures .1) refl
 
 abbrev parse-or-Inv-loop : parse-or-lts.InvT-loop
 parse-or-Inv-loop text at depth tags₀ args₀ names₀ n m class e k q at1₀ n1₀ m1₀ tags args names at1 n1 m1 =
@@ -311,7 +317,7 @@ abbrev parse-or-μ-loop : parse-or-lts.MeasureT-loop
 parse-or-μ-loop text at depth tags₀ args₀ names₀ n m class e k q at1₀ n1₀ m1₀ tags args names at1 n1 m1 = left text at1
 
 abbrev parse-or-calls : ℕ → parse-or-lts.Claims
-parse-or-calls t = (parse-and-below t, parse-and.Post, token-at-reads.Asked, token-at-reads.Learnt, kept-reads.Asked, kept-reads.Learnt, push-reads.Asked, push-reads.Learnt)
+parse-or-calls t = (parse-and-below t, parse-and.Post, sign-at-reads.Asked, sign-at-reads.Learnt, kept-reads.Asked, kept-reads.Learnt, push-reads.Asked, push-reads.Learnt)
 
 parse-or-parse-and-requires : (t : ℕ) → parse-or-lts.Need-parse-and-requires (parse-or-calls t) (parse-or-at t) parse-or.Post parse-or-Inv-loop parse-or-μ-loop
 parse-or-parse-and-requires t c κs = search needs
@@ -344,41 +350,44 @@ parse-or-loop-holds t c =
     let at-entry = at-parse-and .before .before .before .before .before .before .before .before in
     let s = at-entry .args .text .now in let at = at-entry .args .at in let d = at-entry .args .depth in begin (or-level s d at) (omega (arith, at-entry .pre .1)) (at-entry .pre .1 .long) (long-after (at-entry .pre .1 .long) (at-parse-and .parse-and .kept .1 .1 .1 .0) (at-parse-and .parse-and .kept .1 .1 .1 .1 .0) (at-parse-and .parse-and .kept .1 .1 .1 .1 .1 .0)) (omega arith) (at-parse-and .parse-and .ensures .done _ _ _ (at-first .first .given .1))
 
-parse-or-token-at-requires : (t : ℕ) → parse-or-lts.Need-token-at-requires (parse-or-calls t) (parse-or-at t) parse-or.Post parse-or-Inv-loop parse-or-μ-loop
-parse-or-token-at-requires t c κs = search needs
+parse-or-sign-at-requires : (t : ℕ) → parse-or-lts.Need-sign-at-requires (parse-or-calls t) (parse-or-at t) parse-or.Post parse-or-Inv-loop parse-or-μ-loop
+parse-or-sign-at-requires t c κs = search needs
 
 parse-or-enum-known-next : (t : ℕ) → parse-or-lts.Need-enum-known-next (parse-or-calls t) (parse-or-at t) parse-or.Post parse-or-Inv-loop parse-or-μ-loop
 parse-or-enum-known-next t c = search needs
 
+parse-or-enum-told-2 : (t : ℕ) → parse-or-lts.Need-enum-told-2 (parse-or-calls t) (parse-or-at t) parse-or.Post parse-or-Inv-loop parse-or-μ-loop
+parse-or-enum-told-2 t c = search needs
+
 parse-or-same-length-4 : (t : ℕ) → parse-or-lts.Need-same-length-4 (parse-or-calls t) (parse-or-at t) parse-or.Post parse-or-Inv-loop parse-or-μ-loop
 parse-or-same-length-4 t c =
-    let at-loop = c .before .before in
+    let at-loop = c .before .before .before in
     let at-parse-and = at-loop .before .before .before .before .before .before .before .before .before .before in
     let at-entry = at-parse-and .before .before .before .before .before .before .before .before in
     at-loop .loop .inv .long .tags ∙ at-parse-and .parse-and .kept .1 .1 .1 .0 ∙ sym (at-entry .pre .1 .long .tags)
 
 parse-or-same-length-5 : (t : ℕ) → parse-or-lts.Need-same-length-5 (parse-or-calls t) (parse-or-at t) parse-or.Post parse-or-Inv-loop parse-or-μ-loop
 parse-or-same-length-5 t c =
-    let at-loop = c .before .before in
+    let at-loop = c .before .before .before in
     let at-parse-and = at-loop .before .before .before .before .before .before .before .before .before .before in
     let at-entry = at-parse-and .before .before .before .before .before .before .before .before in
     at-loop .loop .inv .long .args ∙ at-parse-and .parse-and .kept .1 .1 .1 .0 ∙ sym (at-entry .pre .1 .long .args)
 
 parse-or-same-length-6 : (t : ℕ) → parse-or-lts.Need-same-length-6 (parse-or-calls t) (parse-or-at t) parse-or.Post parse-or-Inv-loop parse-or-μ-loop
 parse-or-same-length-6 t c =
-    let at-loop = c .before .before in
+    let at-loop = c .before .before .before in
     let at-parse-and = at-loop .before .before .before .before .before .before .before .before .before .before in
     let at-entry = at-parse-and .before .before .before .before .before .before .before .before in
     at-loop .loop .inv .long .names ∙ at-parse-and .parse-and .kept .1 .1 .1 .0 ∙ sym (at-entry .pre .1 .long .names)
 
 parse-or-returns-2 : (t : ℕ) → parse-or-lts.Need-returns-2 (parse-or-calls t) (parse-or-at t) parse-or.Post parse-or-Inv-loop parse-or-μ-loop
 parse-or-returns-2 t c =
-    let at-token-at = c .before in
-    let at-loop = at-token-at .before in
+    let at-sign-at = c .before .before in
+    let at-loop = at-sign-at .before in
     let at-first = at-loop .before .before in
     let at-parse-and = at-first .before .before .before .before .before .before .before .before in
     let at-entry = at-parse-and .before .before .before .before .before .before .before .before in
-    let s = at-entry .args .text .now in let at = at-entry .args .at in let d = at-entry .args .depth in let f = at-entry .pre .1 in gave-done (rebase (front ((at-parse-and .parse-and .ensures .done _ _ _ (at-first .first .given .1)) .holds) (omega (arith, f)) (omega (arith, f)) (omega (arith, f))) (stop (or-level s d at) (no-sign s _ (at-token-at .token-at .ensures) orSign tt (c .match2 .keys2)) (at-loop .loop .inv)))
+    let s = at-entry .args .text .now in let at = at-entry .args .at in let d = at-entry .args .depth in let f = at-entry .pre .1 in gave-done (rebase (front ((at-parse-and .parse-and .ensures .done _ _ _ (at-first .first .given .1)) .holds) (omega (arith, f)) (omega (arith, f)) (omega (arith, f))) (stop (or-level s d at) (test-off s _ orSign (at-sign-at .sign-at .ensures) (omega arith) (omega arith) (c .enum-told2 .given .1)) (at-loop .loop .inv)))
 
 parse-or-kept-requires : (t : ℕ) → parse-or-lts.Need-kept-requires (parse-or-calls t) (parse-or-at t) parse-or.Post parse-or-Inv-loop parse-or-μ-loop
 parse-or-kept-requires t c κs =
@@ -391,17 +400,17 @@ parse-or-parse-and-requires-2 : (t : ℕ) → parse-or-lts.Need-parse-and-requir
 parse-or-parse-and-requires-2 t c κs =
     let at-kept = c .before .before .before in
     let at-next = at-kept .before .before .before in
-    let at-token-at = at-next .before .before in
-    let at-loop = at-token-at .before in
+    let at-sign-at = at-next .before .before in
+    let at-loop = at-sign-at .before in
     let at-parse-and = at-loop .before .before .before .before .before .before .before .before .before .before in
     let at-entry = at-parse-and .before .before .before .before .before .before .before .before in
-    omega (arith, at-entry .pre .0, at-entry .pre .1, at-loop .loop .inv, at-parse-and .parse-and .kept .1 .1 .1 .0, at-parse-and .parse-and .kept .1 .1 .1 .1 .0, at-parse-and .parse-and .kept .1 .1 .1 .1 .1 .0, at-kept .kept .ensures, (or-signed (at-entry .args .text .now) _ (sym (at-token-at .token-at .ensures) ∙ at-next .next .given .1)) .bounds)
+    omega (arith, at-entry .pre .0, at-entry .pre .1, at-loop .loop .inv, at-parse-and .parse-and .kept .1 .1 .1 .0, at-parse-and .parse-and .kept .1 .1 .1 .1 .0, at-parse-and .parse-and .kept .1 .1 .1 .1 .1 .0, at-kept .kept .ensures, (test-on (at-entry .args .text .now) _ orSign (at-sign-at .sign-at .ensures) (at-next .next .given .1)) .bounds)
 
 parse-or-enum-known-right : (t : ℕ) → parse-or-lts.Need-enum-known-right (parse-or-calls t) (parse-or-at t) parse-or.Post parse-or-Inv-loop parse-or-μ-loop
 parse-or-enum-known-right t c = search needs
 
-parse-or-enum-told-2 : (t : ℕ) → parse-or-lts.Need-enum-told-2 (parse-or-calls t) (parse-or-at t) parse-or.Post parse-or-Inv-loop parse-or-μ-loop
-parse-or-enum-told-2 t c = search needs
+parse-or-enum-told-3 : (t : ℕ) → parse-or-lts.Need-enum-told-3 (parse-or-calls t) (parse-or-at t) parse-or.Post parse-or-Inv-loop parse-or-μ-loop
+parse-or-enum-told-3 t c = search needs
 
 parse-or-same-length-7 : (t : ℕ) → parse-or-lts.Need-same-length-7 (parse-or-calls t) (parse-or-at t) parse-or.Post parse-or-Inv-loop parse-or-μ-loop
 parse-or-same-length-7 t c =
@@ -431,10 +440,10 @@ parse-or-returns-3 : (t : ℕ) → parse-or-lts.Need-returns-3 (parse-or-calls t
 parse-or-returns-3 t c =
     let at-parse-and2 = c .before .before .before .before .before .before .before .before in
     let at-next = at-parse-and2 .before .before .before .before .before .before .before in
-    let at-token-at = at-next .before .before in
-    let at-loop = at-token-at .before in
+    let at-sign-at = at-next .before .before in
+    let at-loop = at-sign-at .before in
     let at-entry = at-loop .before .before .before .before .before .before .before .before .before .before .before .before .before .before .before .before .before .before in
-    let s = at-entry .args .text .now in let at = at-entry .args .at in let d = at-entry .args .depth in let g = (or-signed (at-entry .args .text .now) _ (sym (at-token-at .token-at .ensures) ∙ at-next .next .given .1)) in gave-refused (c .enum-told2 .given .1) (right-refused (or-level s d at) (g .sign) (g .bounds .2) (at-loop .loop .inv) (omega arith) (at-parse-and2 .parse-and2 .ensures .refused _ (c .enum-told2 .given .1)))
+    let s = at-entry .args .text .now in let at = at-entry .args .at in let d = at-entry .args .depth in let g = (test-on (at-entry .args .text .now) _ orSign (at-sign-at .sign-at .ensures) (at-next .next .given .1)) in gave-refused (c .enum-told3 .given .1) (right-refused (or-level s d at) (g .sign) (g .bounds .2) (at-loop .loop .inv) (omega arith) (at-parse-and2 .parse-and2 .ensures .refused _ (c .enum-told3 .given .1)))
 
 parse-or-sub-push : (t : ℕ) → parse-or-lts.Need-sub-push (parse-or-calls t) (parse-or-at t) parse-or.Post parse-or-Inv-loop parse-or-μ-loop
 parse-or-sub-push t c =
@@ -442,11 +451,11 @@ parse-or-sub-push t c =
     let at-parse-and2 = at-right .before .before .before .before .before .before .before .before in
     let at-kept = at-parse-and2 .before .before .before .before in
     let at-next = at-kept .before .before .before in
-    let at-token-at = at-next .before .before in
-    let at-loop = at-token-at .before in
+    let at-sign-at = at-next .before .before in
+    let at-loop = at-sign-at .before in
     let at-parse-and = at-loop .before .before .before .before .before .before .before .before .before .before in
     let at-entry = at-parse-and .before .before .before .before .before .before .before .before in
-    omega (arith, at-entry .pre .1, at-loop .loop .inv, at-parse-and .parse-and .kept .1 .1 .1 .0, at-parse-and .parse-and .kept .1 .1 .1 .1 .0, at-parse-and .parse-and .kept .1 .1 .1 .1 .1 .0, at-kept .kept .ensures, (or-signed (at-entry .args .text .now) _ (sym (at-token-at .token-at .ensures) ∙ at-next .next .given .1)) .bounds, (at-parse-and2 .parse-and2 .ensures .done _ _ _ (at-right .right .given .1)), at-parse-and2 .parse-and2 .kept .1 .1 .1 .0, at-parse-and2 .parse-and2 .kept .1 .1 .1 .1 .0, at-parse-and2 .parse-and2 .kept .1 .1 .1 .1 .1 .0)
+    omega (arith, at-entry .pre .1, at-loop .loop .inv, at-parse-and .parse-and .kept .1 .1 .1 .0, at-parse-and .parse-and .kept .1 .1 .1 .1 .0, at-parse-and .parse-and .kept .1 .1 .1 .1 .1 .0, at-kept .kept .ensures, (test-on (at-entry .args .text .now) _ orSign (at-sign-at .sign-at .ensures) (at-next .next .given .1)) .bounds, (at-parse-and2 .parse-and2 .ensures .done _ _ _ (at-right .right .given .1)), at-parse-and2 .parse-and2 .kept .1 .1 .1 .0, at-parse-and2 .parse-and2 .kept .1 .1 .1 .1 .0, at-parse-and2 .parse-and2 .kept .1 .1 .1 .1 .1 .0)
 
 parse-or-add-push : (t : ℕ) → parse-or-lts.Need-add-push (parse-or-calls t) (parse-or-at t) parse-or.Post parse-or-Inv-loop parse-or-μ-loop
 parse-or-add-push t c =
@@ -454,11 +463,11 @@ parse-or-add-push t c =
     let at-parse-and2 = at-right .before .before .before .before .before .before .before .before in
     let at-kept = at-parse-and2 .before .before .before .before in
     let at-next = at-kept .before .before .before in
-    let at-token-at = at-next .before .before in
-    let at-loop = at-token-at .before in
+    let at-sign-at = at-next .before .before in
+    let at-loop = at-sign-at .before in
     let at-parse-and = at-loop .before .before .before .before .before .before .before .before .before .before in
     let at-entry = at-parse-and .before .before .before .before .before .before .before .before in
-    omega (arith, at-entry .pre .1, at-loop .loop .inv, at-parse-and .parse-and .kept .1 .1 .1 .0, at-parse-and .parse-and .kept .1 .1 .1 .1 .0, at-parse-and .parse-and .kept .1 .1 .1 .1 .1 .0, at-kept .kept .ensures, (or-signed (at-entry .args .text .now) _ (sym (at-token-at .token-at .ensures) ∙ at-next .next .given .1)) .bounds, (at-parse-and2 .parse-and2 .ensures .done _ _ _ (at-right .right .given .1)), at-parse-and2 .parse-and2 .kept .1 .1 .1 .0, at-parse-and2 .parse-and2 .kept .1 .1 .1 .1 .0, at-parse-and2 .parse-and2 .kept .1 .1 .1 .1 .1 .0)
+    omega (arith, at-entry .pre .1, at-loop .loop .inv, at-parse-and .parse-and .kept .1 .1 .1 .0, at-parse-and .parse-and .kept .1 .1 .1 .1 .0, at-parse-and .parse-and .kept .1 .1 .1 .1 .1 .0, at-kept .kept .ensures, (test-on (at-entry .args .text .now) _ orSign (at-sign-at .sign-at .ensures) (at-next .next .given .1)) .bounds, (at-parse-and2 .parse-and2 .ensures .done _ _ _ (at-right .right .given .1)), at-parse-and2 .parse-and2 .kept .1 .1 .1 .0, at-parse-and2 .parse-and2 .kept .1 .1 .1 .1 .0, at-parse-and2 .parse-and2 .kept .1 .1 .1 .1 .1 .0)
 
 parse-or-push-requires : (t : ℕ) → parse-or-lts.Need-push-requires (parse-or-calls t) (parse-or-at t) parse-or.Post parse-or-Inv-loop parse-or-μ-loop
 parse-or-push-requires t c κs =
@@ -466,11 +475,11 @@ parse-or-push-requires t c κs =
     let at-parse-and2 = at-right .before .before .before .before .before .before .before .before in
     let at-kept = at-parse-and2 .before .before .before .before in
     let at-next = at-kept .before .before .before in
-    let at-token-at = at-next .before .before in
-    let at-loop = at-token-at .before in
+    let at-sign-at = at-next .before .before in
+    let at-loop = at-sign-at .before in
     let at-parse-and = at-loop .before .before .before .before .before .before .before .before .before .before in
     let at-entry = at-parse-and .before .before .before .before .before .before .before .before in
-    omega (arith, at-entry .pre .1, at-loop .loop .inv, at-parse-and .parse-and .kept .1 .1 .1 .0, at-parse-and .parse-and .kept .1 .1 .1 .1 .0, at-parse-and .parse-and .kept .1 .1 .1 .1 .1 .0, at-kept .kept .ensures, (or-signed (at-entry .args .text .now) _ (sym (at-token-at .token-at .ensures) ∙ at-next .next .given .1)) .bounds, (at-parse-and2 .parse-and2 .ensures .done _ _ _ (at-right .right .given .1)), at-parse-and2 .parse-and2 .kept .1 .1 .1 .0, at-parse-and2 .parse-and2 .kept .1 .1 .1 .1 .0, at-parse-and2 .parse-and2 .kept .1 .1 .1 .1 .1 .0)
+    omega (arith, at-entry .pre .1, at-loop .loop .inv, at-parse-and .parse-and .kept .1 .1 .1 .0, at-parse-and .parse-and .kept .1 .1 .1 .1 .0, at-parse-and .parse-and .kept .1 .1 .1 .1 .1 .0, at-kept .kept .ensures, (test-on (at-entry .args .text .now) _ orSign (at-sign-at .sign-at .ensures) (at-next .next .given .1)) .bounds, (at-parse-and2 .parse-and2 .ensures .done _ _ _ (at-right .right .given .1)), at-parse-and2 .parse-and2 .kept .1 .1 .1 .0, at-parse-and2 .parse-and2 .kept .1 .1 .1 .1 .0, at-parse-and2 .parse-and2 .kept .1 .1 .1 .1 .1 .0)
 
 parse-or-add-n1 : (t : ℕ) → parse-or-lts.Need-add-n1 (parse-or-calls t) (parse-or-at t) parse-or.Post parse-or-Inv-loop parse-or-μ-loop
 parse-or-add-n1 t c =
@@ -478,20 +487,20 @@ parse-or-add-n1 t c =
     let at-parse-and2 = at-right .before .before .before .before .before .before .before .before in
     let at-kept = at-parse-and2 .before .before .before .before in
     let at-next = at-kept .before .before .before in
-    let at-token-at = at-next .before .before in
-    let at-loop = at-token-at .before in
+    let at-sign-at = at-next .before .before in
+    let at-loop = at-sign-at .before in
     let at-parse-and = at-loop .before .before .before .before .before .before .before .before .before .before in
     let at-entry = at-parse-and .before .before .before .before .before .before .before .before in
-    omega (arith, at-entry .pre .1, at-loop .loop .inv, at-parse-and .parse-and .kept .1 .1 .1 .0, at-parse-and .parse-and .kept .1 .1 .1 .1 .0, at-parse-and .parse-and .kept .1 .1 .1 .1 .1 .0, at-kept .kept .ensures, (or-signed (at-entry .args .text .now) _ (sym (at-token-at .token-at .ensures) ∙ at-next .next .given .1)) .bounds, (at-parse-and2 .parse-and2 .ensures .done _ _ _ (at-right .right .given .1)), at-parse-and2 .parse-and2 .kept .1 .1 .1 .0, at-parse-and2 .parse-and2 .kept .1 .1 .1 .1 .0, at-parse-and2 .parse-and2 .kept .1 .1 .1 .1 .1 .0)
+    omega (arith, at-entry .pre .1, at-loop .loop .inv, at-parse-and .parse-and .kept .1 .1 .1 .0, at-parse-and .parse-and .kept .1 .1 .1 .1 .0, at-parse-and .parse-and .kept .1 .1 .1 .1 .1 .0, at-kept .kept .ensures, (test-on (at-entry .args .text .now) _ orSign (at-sign-at .sign-at .ensures) (at-next .next .given .1)) .bounds, (at-parse-and2 .parse-and2 .ensures .done _ _ _ (at-right .right .given .1)), at-parse-and2 .parse-and2 .kept .1 .1 .1 .0, at-parse-and2 .parse-and2 .kept .1 .1 .1 .1 .0, at-parse-and2 .parse-and2 .kept .1 .1 .1 .1 .1 .0)
 
 parse-or-loop-less : (t : ℕ) → parse-or-lts.Need-loop-less (parse-or-calls t) (parse-or-at t) parse-or.Post parse-or-Inv-loop parse-or-μ-loop
 parse-or-loop-less t c =
     let at-right = c .before .before .before .before .before .before .before .before in
     let at-parse-and2 = at-right .before .before .before .before .before .before .before .before in
     let at-next = at-parse-and2 .before .before .before .before .before .before .before in
-    let at-token-at = at-next .before .before in
-    let at-entry = at-token-at .before .before .before .before .before .before .before .before .before .before .before .before .before .before .before .before .before .before .before in
-    omega (arith, (or-signed (at-entry .args .text .now) _ (sym (at-token-at .token-at .ensures) ∙ at-next .next .given .1)) .bounds, (at-parse-and2 .parse-and2 .ensures .done _ _ _ (at-right .right .given .1)) .fewer)
+    let at-sign-at = at-next .before .before in
+    let at-entry = at-sign-at .before .before .before .before .before .before .before .before .before .before .before .before .before .before .before .before .before .before .before in
+    omega (arith, (test-on (at-entry .args .text .now) _ orSign (at-sign-at .sign-at .ensures) (at-next .next .given .1)) .bounds, (at-parse-and2 .parse-and2 .ensures .done _ _ _ (at-right .right .given .1)) .fewer)
 
 parse-or-loop-again : (t : ℕ) → parse-or-lts.Need-loop-again (parse-or-calls t) (parse-or-at t) parse-or.Post parse-or-Inv-loop parse-or-μ-loop
 parse-or-loop-again t c =
@@ -500,11 +509,11 @@ parse-or-loop-again t c =
     let at-parse-and2 = at-right .before .before .before .before .before .before .before .before in
     let at-kept = at-parse-and2 .before .before .before .before in
     let at-next = at-kept .before .before .before in
-    let at-token-at = at-next .before .before in
-    let at-loop = at-token-at .before in
+    let at-sign-at = at-next .before .before in
+    let at-loop = at-sign-at .before in
     let at-parse-and = at-loop .before .before .before .before .before .before .before .before .before .before in
     let at-entry = at-parse-and .before .before .before .before .before .before .before .before in
-    let s = at-entry .args .text .now in let at = at-entry .args .at in let d = at-entry .args .depth in let g = (or-signed (at-entry .args .text .now) _ (sym (at-token-at .token-at .ensures) ∙ at-next .next .given .1)) in let r = (at-parse-and2 .parse-and2 .ensures .done _ _ _ (at-right .right .given .1)) in let lb = (long-after (at-entry .pre .1 .long) (at-parse-and .parse-and .kept .1 .1 .1 .0) (at-parse-and .parse-and .kept .1 .1 .1 .1 .0) (at-parse-and .parse-and .kept .1 .1 .1 .1 .1 .0)) in let la = (still (at-loop .loop .inv .long) (at-parse-and2 .parse-and2 .kept .1 .1 .1 .0) (at-parse-and2 .parse-and2 .kept .1 .1 .1 .1 .0) (at-parse-and2 .parse-and2 .kept .1 .1 .1 .1 .1 .0)) in turn (or-level s d at) (g .sign) (g .bounds .2) (g .bounds .0) (omega (arith, at-entry .pre .1, at-parse-and .parse-and .kept .1 .1 .1 .0)) lb (at-loop .loop .inv) (at-kept .kept .ensures) (omega arith) r la (omega (arith, at-entry .pre .1, at-loop .loop .inv, at-parse-and .parse-and .kept .1 .1 .1 .0, at-parse-and .parse-and .kept .1 .1 .1 .1 .0, at-parse-and .parse-and .kept .1 .1 .1 .1 .1 .0, at-kept .kept .ensures, (or-signed (at-entry .args .text .now) _ (sym (at-token-at .token-at .ensures) ∙ at-next .next .given .1)) .bounds, (at-parse-and2 .parse-and2 .ensures .done _ _ _ (at-right .right .given .1)), la)) (at-push .push .ensures .0) (at-push .push .ensures .1) refl
+    let s = at-entry .args .text .now in let at = at-entry .args .at in let d = at-entry .args .depth in let g = (test-on (at-entry .args .text .now) _ orSign (at-sign-at .sign-at .ensures) (at-next .next .given .1)) in let r = (at-parse-and2 .parse-and2 .ensures .done _ _ _ (at-right .right .given .1)) in let lb = (long-after (at-entry .pre .1 .long) (at-parse-and .parse-and .kept .1 .1 .1 .0) (at-parse-and .parse-and .kept .1 .1 .1 .1 .0) (at-parse-and .parse-and .kept .1 .1 .1 .1 .1 .0)) in let la = (still (at-loop .loop .inv .long) (at-parse-and2 .parse-and2 .kept .1 .1 .1 .0) (at-parse-and2 .parse-and2 .kept .1 .1 .1 .1 .0) (at-parse-and2 .parse-and2 .kept .1 .1 .1 .1 .1 .0)) in turn (or-level s d at) (g .sign) (g .bounds .2) (g .bounds .0) (omega (arith, at-entry .pre .1, at-parse-and .parse-and .kept .1 .1 .1 .0)) lb (at-loop .loop .inv) (at-kept .kept .ensures) (omega arith) r la (omega (arith, at-entry .pre .1, at-loop .loop .inv, at-parse-and .parse-and .kept .1 .1 .1 .0, at-parse-and .parse-and .kept .1 .1 .1 .1 .0, at-parse-and .parse-and .kept .1 .1 .1 .1 .1 .0, at-kept .kept .ensures, (test-on (at-entry .args .text .now) _ orSign (at-sign-at .sign-at .ensures) (at-next .next .given .1)) .bounds, (at-parse-and2 .parse-and2 .ensures .done _ _ _ (at-right .right .given .1)), la)) (at-push .push .ensures .0) (at-push .push .ensures .1) refl
 
 abbrev parse-primary-Inv-loop : parse-primary-lts.InvT-loop
 parse-primary-Inv-loop text at depth tags₀ args₀ names₀ n m class combinator place next at1₀ n1₀ m1₀ tags args names at1 n1 m1 =
@@ -514,7 +523,7 @@ abbrev parse-primary-μ-loop : parse-primary-lts.MeasureT-loop
 parse-primary-μ-loop text at depth tags₀ args₀ names₀ n m class combinator place next at1₀ n1₀ m1₀ tags args names at1 n1 m1 = left text at1
 
 abbrev parse-primary-calls : ℕ → parse-primary-lts.Claims
-parse-primary-calls t = (head-at-reads.Asked, head-at-reads.Learnt, put-name-reads.Asked, put-name-reads.Learnt, push-reads.Asked, push-reads.Learnt, test-kind-reads.Asked, test-kind-reads.Learnt, test-arg-reads.Asked, test-arg-reads.Learnt, parse-or-below t, parse-or.Post, token-at-reads.Asked, token-at-reads.Learnt, place-of-reads.Asked, place-of-reads.Learnt, refuse-reads.Asked, refuse-reads.Learnt, combinator-kind-reads.Asked, combinator-kind-reads.Learnt, combinator-arg-reads.Asked, combinator-arg-reads.Learnt)
+parse-primary-calls t = (head-at-reads.Asked, head-at-reads.Learnt, put-name-reads.Asked, put-name-reads.Learnt, push-reads.Asked, push-reads.Learnt, test-kind-reads.Asked, test-kind-reads.Learnt, test-arg-reads.Asked, test-arg-reads.Learnt, parse-or-below t, parse-or.Post, token-at-reads.Asked, token-at-reads.Learnt, place-of-reads.Asked, place-of-reads.Learnt, refuse-reads.Asked, refuse-reads.Learnt, bracket-at-reads.Asked, bracket-at-reads.Learnt, combinator-kind-reads.Asked, combinator-kind-reads.Learnt, combinator-arg-reads.Asked, combinator-arg-reads.Learnt)
 
 parse-primary-head-at-requires : (t : ℕ) → parse-primary-lts.Need-head-at-requires (parse-primary-calls t) (parse-primary-at t) parse-primary.Post parse-primary-Inv-loop parse-primary-μ-loop
 parse-primary-head-at-requires t c κs = search needs
@@ -679,8 +688,8 @@ parse-primary-returns-2 t c =
 parse-primary-enum-known-combinator : (t : ℕ) → parse-primary-lts.Need-enum-known-combinator (parse-primary-calls t) (parse-primary-at t) parse-primary.Post parse-primary-Inv-loop parse-primary-μ-loop
 parse-primary-enum-known-combinator t c = search needs
 
-parse-primary-token-at-requires-2 : (t : ℕ) → parse-primary-lts.Need-token-at-requires-2 (parse-primary-calls t) (parse-primary-at t) parse-primary.Post parse-primary-Inv-loop parse-primary-μ-loop
-parse-primary-token-at-requires-2 t c κs = search needs
+parse-primary-bracket-at-requires : (t : ℕ) → parse-primary-lts.Need-bracket-at-requires (parse-primary-calls t) (parse-primary-at t) parse-primary.Post parse-primary-Inv-loop parse-primary-μ-loop
+parse-primary-bracket-at-requires t c κs = search needs
 
 parse-primary-enum-told-2 : (t : ℕ) → parse-primary-lts.Need-enum-told-2 (parse-primary-calls t) (parse-primary-at t) parse-primary.Post parse-primary-Inv-loop parse-primary-μ-loop
 parse-primary-enum-told-2 t c = search needs
@@ -691,36 +700,39 @@ parse-primary-refuse-requires-2 t c κs = search needs
 parse-primary-returns-3 : (t : ℕ) → parse-primary-lts.Need-returns-3 (parse-primary-calls t) (parse-primary-at t) parse-primary.Post parse-primary-Inv-loop parse-primary-μ-loop
 parse-primary-returns-3 t c =
     let at-enum-told2 = c .before in
-    let at-token-at2 = at-enum-told2 .before .before in
-    let at-combinator = at-token-at2 .before .before in
+    let at-bracket-at = at-enum-told2 .before .before in
+    let at-combinator = at-bracket-at .before .before in
     let at-head-at = at-combinator .before .before in
     let at-entry = at-head-at .before .before .before .before .before in
-    let s = at-entry .args .text .now in let at = at-entry .args .at in let d = at-entry .args .depth in let g = close-signed s _ (sym (at-token-at2 .token-at2 .ensures) ∙ at-enum-told2 .enum-told2 .given .1) in gave-refused (c .refuse2 .ensures) (list-empty s d at _ (head-is _ (at-head-at .head-at .ensures) (at-combinator .combinator .given .1)) (head-ahead (at-entry .args .at) (at-head-at .head-at .ensures) (ap headNext (at-combinator .combinator .given .1))) (g .sign))
+    let s = at-entry .args .text .now in let at = at-entry .args .at in let d = at-entry .args .depth in let g = test-on s _ closeSign (at-bracket-at .bracket-at .ensures) (at-enum-told2 .enum-told2 .given .1) in gave-refused (c .refuse2 .ensures) (list-empty s d at _ (head-is _ (at-head-at .head-at .ensures) (at-combinator .combinator .given .1)) (head-ahead (at-entry .args .at) (at-head-at .head-at .ensures) (ap headNext (at-combinator .combinator .given .1))) (g .sign))
+
+parse-primary-enum-told-3 : (t : ℕ) → parse-primary-lts.Need-enum-told-3 (parse-primary-calls t) (parse-primary-at t) parse-primary.Post parse-primary-Inv-loop parse-primary-μ-loop
+parse-primary-enum-told-3 t c = search needs
 
 parse-primary-loop-holds : (t : ℕ) → parse-primary-lts.Need-loop-holds (parse-primary-calls t) (parse-primary-at t) parse-primary.Post parse-primary-Inv-loop parse-primary-μ-loop
 parse-primary-loop-holds t c =
-    let at-token-at2 = c .before in
-    let at-combinator = at-token-at2 .before .before in
+    let at-bracket-at = c .before .before in
+    let at-combinator = at-bracket-at .before .before in
     let at-head-at = at-combinator .before .before in
     let at-entry = at-head-at .before .before .before .before .before in
-    let s = at-entry .args .text .now in let at = at-entry .args .at in let d = at-entry .args .depth in list-begin s d at _ (head-is _ (at-head-at .head-at .ensures) (at-combinator .combinator .given .1)) (head-ahead (at-entry .args .at) (at-head-at .head-at .ensures) (ap headNext (at-combinator .combinator .given .1))) (no-sign s _ (at-token-at2 .token-at2 .ensures) closeSign tt (c .match4 .keys2)) (at-entry .pre .1 .long)
+    let s = at-entry .args .text .now in let at = at-entry .args .at in let d = at-entry .args .depth in list-begin s d at _ (head-is _ (at-head-at .head-at .ensures) (at-combinator .combinator .given .1)) (head-ahead (at-entry .args .at) (at-head-at .head-at .ensures) (ap headNext (at-combinator .combinator .given .1))) (test-off s _ closeSign (at-bracket-at .bracket-at .ensures) (omega arith) (omega arith) (c .enum-told3 .given .1)) (at-entry .pre .1 .long)
 
 parse-primary-add-parse-or-2 : (t : ℕ) → parse-primary-lts.Need-add-parse-or-2 (parse-primary-calls t) (parse-primary-at t) parse-primary.Post parse-primary-Inv-loop parse-primary-μ-loop
 parse-primary-add-parse-or-2 t c =
-    let at-entry = c .before .before .before .before .before .before .before .before .before .before .before in
+    let at-entry = c .before .before .before .before .before .before .before .before .before .before .before .before in
     omega (arith, at-entry .pre .1)
 
 parse-primary-parse-or-requires-2 : (t : ℕ) → parse-primary-lts.Need-parse-or-requires-2 (parse-primary-calls t) (parse-primary-at t) parse-primary.Post parse-primary-Inv-loop parse-primary-μ-loop
 parse-primary-parse-or-requires-2 t c κs =
     let at-loop = c .before .before .before in
-    let at-entry = at-loop .before .before .before .before .before .before .before .before .before .before .before in
+    let at-entry = at-loop .before .before .before .before .before .before .before .before .before .before .before .before in
     omega (arith, at-entry .pre .0, at-entry .pre .1, (at-loop .loop .inv))
 
 parse-primary-enum-known-item : (t : ℕ) → parse-primary-lts.Need-enum-known-item (parse-primary-calls t) (parse-primary-at t) parse-primary.Post parse-primary-Inv-loop parse-primary-μ-loop
 parse-primary-enum-known-item t c = search needs
 
-parse-primary-enum-told-3 : (t : ℕ) → parse-primary-lts.Need-enum-told-3 (parse-primary-calls t) (parse-primary-at t) parse-primary.Post parse-primary-Inv-loop parse-primary-μ-loop
-parse-primary-enum-told-3 t c = search needs
+parse-primary-enum-told-4 : (t : ℕ) → parse-primary-lts.Need-enum-told-4 (parse-primary-calls t) (parse-primary-at t) parse-primary.Post parse-primary-Inv-loop parse-primary-μ-loop
+parse-primary-enum-told-4 t c = search needs
 
 parse-primary-same-length-7 : (t : ℕ) → parse-primary-lts.Need-same-length-7 (parse-primary-calls t) (parse-primary-at t) parse-primary.Post parse-primary-Inv-loop parse-primary-μ-loop
 parse-primary-same-length-7 t c =
@@ -732,26 +744,26 @@ parse-primary-same-length-8 : (t : ℕ) → parse-primary-lts.Need-same-length-8
 parse-primary-same-length-8 t c =
     let at-parse-or2 = c .before .before .before .before .before .before .before .before in
     let at-loop = at-parse-or2 .before .before .before .before in
-    let at-entry = at-loop .before .before .before .before .before .before .before .before .before .before .before in
+    let at-entry = at-loop .before .before .before .before .before .before .before .before .before .before .before .before in
     at-parse-or2 .parse-or2 .kept .1 .1 .1 .1 .0 ∙ at-loop .loop .inv .long .args ∙ sym (at-entry .pre .1 .long .args)
 
 parse-primary-same-length-9 : (t : ℕ) → parse-primary-lts.Need-same-length-9 (parse-primary-calls t) (parse-primary-at t) parse-primary.Post parse-primary-Inv-loop parse-primary-μ-loop
 parse-primary-same-length-9 t c =
     let at-parse-or2 = c .before .before .before .before .before .before .before .before in
     let at-loop = at-parse-or2 .before .before .before .before in
-    let at-entry = at-loop .before .before .before .before .before .before .before .before .before .before .before in
+    let at-entry = at-loop .before .before .before .before .before .before .before .before .before .before .before .before in
     at-parse-or2 .parse-or2 .kept .1 .1 .1 .1 .1 .0 ∙ at-loop .loop .inv .long .names ∙ sym (at-entry .pre .1 .long .names)
 
 parse-primary-returns-4 : (t : ℕ) → parse-primary-lts.Need-returns-4 (parse-primary-calls t) (parse-primary-at t) parse-primary.Post parse-primary-Inv-loop parse-primary-μ-loop
 parse-primary-returns-4 t c =
     let at-parse-or2 = c .before .before .before .before .before .before .before .before in
     let at-loop = at-parse-or2 .before .before .before .before in
-    let at-entry = at-loop .before .before .before .before .before .before .before .before .before .before .before in
-    let s = at-entry .args .text .now in let at = at-entry .args .at in let d = at-entry .args .depth in gave-refused (c .enum-told3 .given .1) (item-refused s d at _ (at-loop .loop .inv) (at-parse-or2 .parse-or2 .ensures .refused _ (c .enum-told3 .given .1)))
+    let at-entry = at-loop .before .before .before .before .before .before .before .before .before .before .before .before in
+    let s = at-entry .args .text .now in let at = at-entry .args .at in let d = at-entry .args .depth in gave-refused (c .enum-told4 .given .1) (item-refused s d at _ (at-loop .loop .inv) (at-parse-or2 .parse-or2 .ensures .refused _ (c .enum-told4 .given .1)))
 
-parse-primary-token-at-requires-3 : (t : ℕ) → parse-primary-lts.Need-token-at-requires-3 (parse-primary-calls t) (parse-primary-at t) parse-primary.Post parse-primary-Inv-loop parse-primary-μ-loop
-parse-primary-token-at-requires-3 t c κs =
-    let at-entry = c .before .before .before .before .before .before .before .before .before .before .before .before .before .before .before .before .before .before .before .before .before .before .before .before in
+parse-primary-token-at-requires-2 : (t : ℕ) → parse-primary-lts.Need-token-at-requires-2 (parse-primary-calls t) (parse-primary-at t) parse-primary.Post parse-primary-Inv-loop parse-primary-μ-loop
+parse-primary-token-at-requires-2 t c κs =
+    let at-entry = c .before .before .before .before .before .before .before .before .before .before .before .before .before .before .before .before .before .before .before .before .before .before .before .before .before in
     omega (arith, at-entry .pre .1)
 
 parse-primary-enum-known-sign : (t : ℕ) → parse-primary-lts.Need-enum-known-sign (parse-primary-calls t) (parse-primary-at t) parse-primary.Post parse-primary-Inv-loop parse-primary-μ-loop
@@ -760,21 +772,21 @@ parse-primary-enum-known-sign t c = search needs
 parse-primary-loop-less : (t : ℕ) → parse-primary-lts.Need-loop-less (parse-primary-calls t) (parse-primary-at t) parse-primary.Post parse-primary-Inv-loop parse-primary-μ-loop
 parse-primary-loop-less t c =
     let at-sign = c .before in
-    let at-token-at3 = at-sign .before .before in
-    let at-item = at-token-at3 .before .before in
+    let at-token-at2 = at-sign .before .before in
+    let at-item = at-token-at2 .before .before in
     let at-parse-or2 = at-item .before .before .before .before .before .before .before .before in
-    let at-entry = at-parse-or2 .before .before .before .before .before .before .before .before .before .before .before .before .before .before .before in
-    omega (arith, (comma-signed (at-entry .args .text .now) _ (sym (at-token-at3 .token-at3 .ensures) ∙ at-sign .sign .given .1)) .bounds, (at-parse-or2 .parse-or2 .ensures .done _ _ _ (at-item .item .given .1)) .fewer)
+    let at-entry = at-parse-or2 .before .before .before .before .before .before .before .before .before .before .before .before .before .before .before .before in
+    omega (arith, (comma-signed (at-entry .args .text .now) _ (sym (at-token-at2 .token-at2 .ensures) ∙ at-sign .sign .given .1)) .bounds, (at-parse-or2 .parse-or2 .ensures .done _ _ _ (at-item .item .given .1)) .fewer)
 
 parse-primary-loop-again : (t : ℕ) → parse-primary-lts.Need-loop-again (parse-primary-calls t) (parse-primary-at t) parse-primary.Post parse-primary-Inv-loop parse-primary-μ-loop
 parse-primary-loop-again t c =
     let at-sign = c .before in
-    let at-token-at3 = at-sign .before .before in
-    let at-item = at-token-at3 .before .before in
+    let at-token-at2 = at-sign .before .before in
+    let at-item = at-token-at2 .before .before in
     let at-parse-or2 = at-item .before .before .before .before .before .before .before .before in
     let at-loop = at-parse-or2 .before .before .before .before in
-    let at-entry = at-loop .before .before .before .before .before .before .before .before .before .before .before in
-    let s = at-entry .args .text .now in let at = at-entry .args .at in let d = at-entry .args .depth in let g = (comma-signed (at-entry .args .text .now) _ (sym (at-token-at3 .token-at3 .ensures) ∙ at-sign .sign .given .1)) in list-turn s d at _ (at-loop .loop .inv) (at-parse-or2 .parse-or2 .ensures .done _ _ _ (at-item .item .given .1)) (g .sign) (g .bounds) (still (at-loop .loop .inv .long) (at-parse-or2 .parse-or2 .kept .1 .1 .1 .0) (at-parse-or2 .parse-or2 .kept .1 .1 .1 .1 .0) (at-parse-or2 .parse-or2 .kept .1 .1 .1 .1 .1 .0))
+    let at-entry = at-loop .before .before .before .before .before .before .before .before .before .before .before .before in
+    let s = at-entry .args .text .now in let at = at-entry .args .at in let d = at-entry .args .depth in let g = (comma-signed (at-entry .args .text .now) _ (sym (at-token-at2 .token-at2 .ensures) ∙ at-sign .sign .given .1)) in list-turn s d at _ (at-loop .loop .inv) (at-parse-or2 .parse-or2 .ensures .done _ _ _ (at-item .item .given .1)) (g .sign) (g .bounds) (still (at-loop .loop .inv .long) (at-parse-or2 .parse-or2 .kept .1 .1 .1 .0) (at-parse-or2 .parse-or2 .kept .1 .1 .1 .1 .0) (at-parse-or2 .parse-or2 .kept .1 .1 .1 .1 .1 .0))
 
 parse-primary-enum-known-sign-2 : (t : ℕ) → parse-primary-lts.Need-enum-known-sign-2 (parse-primary-calls t) (parse-primary-at t) parse-primary.Post parse-primary-Inv-loop parse-primary-μ-loop
 parse-primary-enum-known-sign-2 t c = search needs
@@ -785,22 +797,22 @@ parse-primary-combinator-kind-requires t c κs = search needs
 parse-primary-sub-push-2 : (t : ℕ) → parse-primary-lts.Need-sub-push-2 (parse-primary-calls t) (parse-primary-at t) parse-primary.Post parse-primary-Inv-loop parse-primary-μ-loop
 parse-primary-sub-push-2 t c =
     let at-sign2 = c .before .before .before .before in
-    let at-token-at3 = at-sign2 .before .before in
-    let at-item = at-token-at3 .before .before in
+    let at-token-at2 = at-sign2 .before .before in
+    let at-item = at-token-at2 .before .before in
     let at-parse-or2 = at-item .before .before .before .before .before .before .before .before in
     let at-loop = at-parse-or2 .before .before .before .before in
-    let at-entry = at-loop .before .before .before .before .before .before .before .before .before .before .before in
-    omega (arith, at-entry .pre .1, (at-loop .loop .inv), (at-parse-or2 .parse-or2 .ensures .done _ _ _ (at-item .item .given .1)), (close-signed (at-entry .args .text .now) _ (sym (at-token-at3 .token-at3 .ensures) ∙ at-sign2 .sign2 .given .1)) .bounds, at-parse-or2 .parse-or2 .kept .1 .1 .1 .0, at-parse-or2 .parse-or2 .kept .1 .1 .1 .1 .0, at-parse-or2 .parse-or2 .kept .1 .1 .1 .1 .1 .0)
+    let at-entry = at-loop .before .before .before .before .before .before .before .before .before .before .before .before in
+    omega (arith, at-entry .pre .1, (at-loop .loop .inv), (at-parse-or2 .parse-or2 .ensures .done _ _ _ (at-item .item .given .1)), (close-signed (at-entry .args .text .now) _ (sym (at-token-at2 .token-at2 .ensures) ∙ at-sign2 .sign2 .given .1)) .bounds, at-parse-or2 .parse-or2 .kept .1 .1 .1 .0, at-parse-or2 .parse-or2 .kept .1 .1 .1 .1 .0, at-parse-or2 .parse-or2 .kept .1 .1 .1 .1 .1 .0)
 
 parse-primary-add-push-2 : (t : ℕ) → parse-primary-lts.Need-add-push-2 (parse-primary-calls t) (parse-primary-at t) parse-primary.Post parse-primary-Inv-loop parse-primary-μ-loop
 parse-primary-add-push-2 t c =
     let at-sign2 = c .before .before .before .before in
-    let at-token-at3 = at-sign2 .before .before in
-    let at-item = at-token-at3 .before .before in
+    let at-token-at2 = at-sign2 .before .before in
+    let at-item = at-token-at2 .before .before in
     let at-parse-or2 = at-item .before .before .before .before .before .before .before .before in
     let at-loop = at-parse-or2 .before .before .before .before in
-    let at-entry = at-loop .before .before .before .before .before .before .before .before .before .before .before in
-    omega (arith, at-entry .pre .1, (at-loop .loop .inv), (at-parse-or2 .parse-or2 .ensures .done _ _ _ (at-item .item .given .1)), (close-signed (at-entry .args .text .now) _ (sym (at-token-at3 .token-at3 .ensures) ∙ at-sign2 .sign2 .given .1)) .bounds, at-parse-or2 .parse-or2 .kept .1 .1 .1 .0, at-parse-or2 .parse-or2 .kept .1 .1 .1 .1 .0, at-parse-or2 .parse-or2 .kept .1 .1 .1 .1 .1 .0)
+    let at-entry = at-loop .before .before .before .before .before .before .before .before .before .before .before .before in
+    omega (arith, at-entry .pre .1, (at-loop .loop .inv), (at-parse-or2 .parse-or2 .ensures .done _ _ _ (at-item .item .given .1)), (close-signed (at-entry .args .text .now) _ (sym (at-token-at2 .token-at2 .ensures) ∙ at-sign2 .sign2 .given .1)) .bounds, at-parse-or2 .parse-or2 .kept .1 .1 .1 .0, at-parse-or2 .parse-or2 .kept .1 .1 .1 .1 .0, at-parse-or2 .parse-or2 .kept .1 .1 .1 .1 .1 .0)
 
 parse-primary-combinator-arg-requires : (t : ℕ) → parse-primary-lts.Need-combinator-arg-requires (parse-primary-calls t) (parse-primary-at t) parse-primary.Post parse-primary-Inv-loop parse-primary-μ-loop
 parse-primary-combinator-arg-requires t c κs = search needs
@@ -809,23 +821,23 @@ parse-primary-push-requires-3 : (t : ℕ) → parse-primary-lts.Need-push-requir
 parse-primary-push-requires-3 t c κs =
     let at-combinator-kind = c .before in
     let at-sign2 = at-combinator-kind .before .before .before .before in
-    let at-token-at3 = at-sign2 .before .before in
-    let at-item = at-token-at3 .before .before in
+    let at-token-at2 = at-sign2 .before .before in
+    let at-item = at-token-at2 .before .before in
     let at-parse-or2 = at-item .before .before .before .before .before .before .before .before in
     let at-loop = at-parse-or2 .before .before .before .before in
-    let at-combinator = at-loop .before .before .before .before in
+    let at-combinator = at-loop .before .before .before .before .before in
     let at-entry = at-combinator .before .before .before .before .before .before .before in
-    omega (arith, at-entry .pre .1, (at-loop .loop .inv), (at-parse-or2 .parse-or2 .ensures .done _ _ _ (at-item .item .given .1)), (close-signed (at-entry .args .text .now) _ (sym (at-token-at3 .token-at3 .ensures) ∙ at-sign2 .sign2 .given .1)) .bounds, at-parse-or2 .parse-or2 .kept .1 .1 .1 .0, at-parse-or2 .parse-or2 .kept .1 .1 .1 .1 .0, at-parse-or2 .parse-or2 .kept .1 .1 .1 .1 .1 .0, at-combinator-kind .combinator-kind .ensures, join-kind (joinOf (at-combinator .combinator .given .0 .0)))
+    omega (arith, at-entry .pre .1, (at-loop .loop .inv), (at-parse-or2 .parse-or2 .ensures .done _ _ _ (at-item .item .given .1)), (close-signed (at-entry .args .text .now) _ (sym (at-token-at2 .token-at2 .ensures) ∙ at-sign2 .sign2 .given .1)) .bounds, at-parse-or2 .parse-or2 .kept .1 .1 .1 .0, at-parse-or2 .parse-or2 .kept .1 .1 .1 .1 .0, at-parse-or2 .parse-or2 .kept .1 .1 .1 .1 .1 .0, at-combinator-kind .combinator-kind .ensures, join-kind (joinOf (at-combinator .combinator .given .0 .0)))
 
 parse-primary-add-t82 : (t : ℕ) → parse-primary-lts.Need-add-t82 (parse-primary-calls t) (parse-primary-at t) parse-primary.Post parse-primary-Inv-loop parse-primary-μ-loop
 parse-primary-add-t82 t c =
     let at-sign2 = c .before .before .before .before .before .before .before .before .before .before in
-    let at-token-at3 = at-sign2 .before .before in
-    let at-item = at-token-at3 .before .before in
+    let at-token-at2 = at-sign2 .before .before in
+    let at-item = at-token-at2 .before .before in
     let at-parse-or2 = at-item .before .before .before .before .before .before .before .before in
     let at-loop = at-parse-or2 .before .before .before .before in
-    let at-entry = at-loop .before .before .before .before .before .before .before .before .before .before .before in
-    omega (arith, at-entry .pre .1, (at-loop .loop .inv), (at-parse-or2 .parse-or2 .ensures .done _ _ _ (at-item .item .given .1)), (close-signed (at-entry .args .text .now) _ (sym (at-token-at3 .token-at3 .ensures) ∙ at-sign2 .sign2 .given .1)) .bounds, at-parse-or2 .parse-or2 .kept .1 .1 .1 .0, at-parse-or2 .parse-or2 .kept .1 .1 .1 .1 .0, at-parse-or2 .parse-or2 .kept .1 .1 .1 .1 .1 .0)
+    let at-entry = at-loop .before .before .before .before .before .before .before .before .before .before .before .before in
+    omega (arith, at-entry .pre .1, (at-loop .loop .inv), (at-parse-or2 .parse-or2 .ensures .done _ _ _ (at-item .item .given .1)), (close-signed (at-entry .args .text .now) _ (sym (at-token-at2 .token-at2 .ensures) ∙ at-sign2 .sign2 .given .1)) .bounds, at-parse-or2 .parse-or2 .kept .1 .1 .1 .0, at-parse-or2 .parse-or2 .kept .1 .1 .1 .1 .0, at-parse-or2 .parse-or2 .kept .1 .1 .1 .1 .1 .0)
 
 parse-primary-same-length-10 : (t : ℕ) → parse-primary-lts.Need-same-length-10 (parse-primary-calls t) (parse-primary-at t) parse-primary.Post parse-primary-Inv-loop parse-primary-μ-loop
 parse-primary-same-length-10 t c =
@@ -839,14 +851,14 @@ parse-primary-same-length-11 t c =
     let at-push3 = c .before .before .before .before in
     let at-parse-or2 = at-push3 .before .before .before .before .before .before .before .before .before .before .before .before .before .before .before .before .before .before in
     let at-loop = at-parse-or2 .before .before .before .before in
-    let at-entry = at-loop .before .before .before .before .before .before .before .before .before .before .before in
+    let at-entry = at-loop .before .before .before .before .before .before .before .before .before .before .before .before in
     at-push3 .push3 .kept .1 .0 ∙ at-parse-or2 .parse-or2 .kept .1 .1 .1 .1 .0 ∙ at-loop .loop .inv .long .args ∙ sym (at-entry .pre .1 .long .args)
 
 parse-primary-same-length-12 : (t : ℕ) → parse-primary-lts.Need-same-length-12 (parse-primary-calls t) (parse-primary-at t) parse-primary.Post parse-primary-Inv-loop parse-primary-μ-loop
 parse-primary-same-length-12 t c =
     let at-parse-or2 = c .before .before .before .before .before .before .before .before .before .before .before .before .before .before .before .before .before .before .before .before .before .before in
     let at-loop = at-parse-or2 .before .before .before .before in
-    let at-entry = at-loop .before .before .before .before .before .before .before .before .before .before .before in
+    let at-entry = at-loop .before .before .before .before .before .before .before .before .before .before .before .before in
     at-parse-or2 .parse-or2 .kept .1 .1 .1 .1 .1 .0 ∙ at-loop .loop .inv .long .names ∙ sym (at-entry .pre .1 .long .names)
 
 parse-primary-returns-5 : (t : ℕ) → parse-primary-lts.Need-returns-5 (parse-primary-calls t) (parse-primary-at t) parse-primary.Post parse-primary-Inv-loop parse-primary-μ-loop
@@ -855,12 +867,12 @@ parse-primary-returns-5 t c =
     let at-combinator-arg = at-push3 .before in
     let at-combinator-kind = at-combinator-arg .before in
     let at-sign2 = at-combinator-kind .before .before .before .before in
-    let at-token-at3 = at-sign2 .before .before in
-    let at-item = at-token-at3 .before .before in
+    let at-token-at2 = at-sign2 .before .before in
+    let at-item = at-token-at2 .before .before in
     let at-parse-or2 = at-item .before .before .before .before .before .before .before .before in
     let at-loop = at-parse-or2 .before .before .before .before in
-    let at-entry = at-loop .before .before .before .before .before .before .before .before .before .before .before in
-    let s = at-entry .args .text .now in let at = at-entry .args .at in let d = at-entry .args .depth in let g = (close-signed (at-entry .args .text .now) _ (sym (at-token-at3 .token-at3 .ensures) ∙ at-sign2 .sign2 .given .1)) in let r = (at-parse-or2 .parse-or2 .ensures .done _ _ _ (at-item .item .given .1)) in let la = (still (at-loop .loop .inv .long) (at-parse-or2 .parse-or2 .kept .1 .1 .1 .0) (at-parse-or2 .parse-or2 .kept .1 .1 .1 .1 .0) (at-parse-or2 .parse-or2 .kept .1 .1 .1 .1 .1 .0)) in gave-done (list-stop s d at _ (at-loop .loop .inv) r (after-off s _ (sym (at-token-at3 .token-at3 .ensures) ∙ at-sign2 .sign2 .given .1) commaSign (λ q. absurd (omega arith))) (g .sign) (g .bounds) la (omega (arith, at-entry .pre .1, (at-loop .loop .inv), (at-parse-or2 .parse-or2 .ensures .done _ _ _ (at-item .item .given .1)), (close-signed (at-entry .args .text .now) _ (sym (at-token-at3 .token-at3 .ensures) ∙ at-sign2 .sign2 .given .1)) .bounds, at-parse-or2 .parse-or2 .kept .1 .1 .1 .0, at-parse-or2 .parse-or2 .kept .1 .1 .1 .1 .0, at-parse-or2 .parse-or2 .kept .1 .1 .1 .1 .1 .0, la)) (at-combinator-kind .combinator-kind .ensures) (at-combinator-arg .combinator-arg .ensures) (at-push3 .push3 .ensures .0) (at-push3 .push3 .ensures .1) refl)
+    let at-entry = at-loop .before .before .before .before .before .before .before .before .before .before .before .before in
+    let s = at-entry .args .text .now in let at = at-entry .args .at in let d = at-entry .args .depth in let g = (close-signed (at-entry .args .text .now) _ (sym (at-token-at2 .token-at2 .ensures) ∙ at-sign2 .sign2 .given .1)) in let r = (at-parse-or2 .parse-or2 .ensures .done _ _ _ (at-item .item .given .1)) in let la = (still (at-loop .loop .inv .long) (at-parse-or2 .parse-or2 .kept .1 .1 .1 .0) (at-parse-or2 .parse-or2 .kept .1 .1 .1 .1 .0) (at-parse-or2 .parse-or2 .kept .1 .1 .1 .1 .1 .0)) in gave-done (list-stop s d at _ (at-loop .loop .inv) r (after-off s _ (sym (at-token-at2 .token-at2 .ensures) ∙ at-sign2 .sign2 .given .1) commaSign (λ q. absurd (omega arith))) (g .sign) (g .bounds) la (omega (arith, at-entry .pre .1, (at-loop .loop .inv), (at-parse-or2 .parse-or2 .ensures .done _ _ _ (at-item .item .given .1)), (close-signed (at-entry .args .text .now) _ (sym (at-token-at2 .token-at2 .ensures) ∙ at-sign2 .sign2 .given .1)) .bounds, at-parse-or2 .parse-or2 .kept .1 .1 .1 .0, at-parse-or2 .parse-or2 .kept .1 .1 .1 .1 .0, at-parse-or2 .parse-or2 .kept .1 .1 .1 .1 .1 .0, la)) (at-combinator-kind .combinator-kind .ensures) (at-combinator-arg .combinator-arg .ensures) (at-push3 .push3 .ensures .0) (at-push3 .push3 .ensures .1) refl)
 
 parse-primary-place-of-requires-2 : (t : ℕ) → parse-primary-lts.Need-place-of-requires-2 (parse-primary-calls t) (parse-primary-at t) parse-primary.Post parse-primary-Inv-loop parse-primary-μ-loop
 parse-primary-place-of-requires-2 t c κs = search needs
@@ -878,26 +890,26 @@ parse-primary-same-length-14 : (t : ℕ) → parse-primary-lts.Need-same-length-
 parse-primary-same-length-14 t c =
     let at-parse-or2 = c .before .before .before .before .before .before .before .before .before .before .before .before .before in
     let at-loop = at-parse-or2 .before .before .before .before in
-    let at-entry = at-loop .before .before .before .before .before .before .before .before .before .before .before in
+    let at-entry = at-loop .before .before .before .before .before .before .before .before .before .before .before .before in
     at-parse-or2 .parse-or2 .kept .1 .1 .1 .1 .0 ∙ at-loop .loop .inv .long .args ∙ sym (at-entry .pre .1 .long .args)
 
 parse-primary-same-length-15 : (t : ℕ) → parse-primary-lts.Need-same-length-15 (parse-primary-calls t) (parse-primary-at t) parse-primary.Post parse-primary-Inv-loop parse-primary-μ-loop
 parse-primary-same-length-15 t c =
     let at-parse-or2 = c .before .before .before .before .before .before .before .before .before .before .before .before .before in
     let at-loop = at-parse-or2 .before .before .before .before in
-    let at-entry = at-loop .before .before .before .before .before .before .before .before .before .before .before in
+    let at-entry = at-loop .before .before .before .before .before .before .before .before .before .before .before .before in
     at-parse-or2 .parse-or2 .kept .1 .1 .1 .1 .1 .0 ∙ at-loop .loop .inv .long .names ∙ sym (at-entry .pre .1 .long .names)
 
 parse-primary-returns-6 : (t : ℕ) → parse-primary-lts.Need-returns-6 (parse-primary-calls t) (parse-primary-at t) parse-primary.Post parse-primary-Inv-loop parse-primary-μ-loop
 parse-primary-returns-6 t c =
     let at-place-of2 = c .before in
     let at-match6 = at-place-of2 .before in
-    let at-token-at3 = at-match6 .before in
-    let at-item = at-token-at3 .before .before in
+    let at-token-at2 = at-match6 .before in
+    let at-item = at-token-at2 .before .before in
     let at-parse-or2 = at-item .before .before .before .before .before .before .before .before in
     let at-loop = at-parse-or2 .before .before .before .before in
-    let at-entry = at-loop .before .before .before .before .before .before .before .before .before .before .before in
-    let s = at-entry .args .text .now in let at = at-entry .args .at in let d = at-entry .args .depth in let e = at-token-at3 .token-at3 .ensures in let o = no-comma-close s _ e (at-match6 .match6 .keys3) in gave-refused (c .refuse3 .ensures) (list-unclosed s d at _ (at-loop .loop .inv) (at-parse-or2 .parse-or2 .ensures .done _ _ _ (at-item .item .given .1)) (o .0) (o .1) (first-place s _ (sym e) ∙ sym (at-place-of2 .place-of2 .ensures)))
+    let at-entry = at-loop .before .before .before .before .before .before .before .before .before .before .before .before in
+    let s = at-entry .args .text .now in let at = at-entry .args .at in let d = at-entry .args .depth in let e = at-token-at2 .token-at2 .ensures in let o = no-comma-close s _ e (at-match6 .match6 .keys3) in gave-refused (c .refuse3 .ensures) (list-unclosed s d at _ (at-loop .loop .inv) (at-parse-or2 .parse-or2 .ensures .done _ _ _ (at-item .item .given .1)) (o .0) (o .1) (first-place s _ (sym e) ∙ sym (at-place-of2 .place-of2 .ensures)))
 
 parse-primary-returns-7 : (t : ℕ) → parse-primary-lts.Need-returns-7 (parse-primary-calls t) (parse-primary-at t) parse-primary.Post parse-primary-Inv-loop parse-primary-μ-loop
 parse-primary-returns-7 t c =
@@ -974,8 +986,9 @@ pub +parse-and+parse-or+parse-primary-spec : {M : Type 1} → statement M
     (parse-and-same-length-3 t)
     (parse-and-returns t)
     (parse-and-loop-holds t)
-    (parse-and-token-at-requires t)
+    (parse-and-sign-at-requires t)
     (parse-and-enum-known-next t)
+    (parse-and-enum-told-2 t)
     (parse-and-same-length-4 t)
     (parse-and-same-length-5 t)
     (parse-and-same-length-6 t)
@@ -983,7 +996,7 @@ pub +parse-and+parse-or+parse-primary-spec : {M : Type 1} → statement M
     (parse-and-kept-requires t)
     (parse-and-parse-primary-requires-2 t)
     (parse-and-enum-known-right t)
-    (parse-and-enum-told-2 t)
+    (parse-and-enum-told-3 t)
     (parse-and-same-length-7 t)
     (parse-and-same-length-8 t)
     (parse-and-same-length-9 t)
@@ -1006,8 +1019,9 @@ pub +parse-and+parse-or+parse-primary-spec : {M : Type 1} → statement M
     (parse-or-same-length-3 t)
     (parse-or-returns t)
     (parse-or-loop-holds t)
-    (parse-or-token-at-requires t)
+    (parse-or-sign-at-requires t)
     (parse-or-enum-known-next t)
+    (parse-or-enum-told-2 t)
     (parse-or-same-length-4 t)
     (parse-or-same-length-5 t)
     (parse-or-same-length-6 t)
@@ -1015,7 +1029,7 @@ pub +parse-and+parse-or+parse-primary-spec : {M : Type 1} → statement M
     (parse-or-kept-requires t)
     (parse-or-parse-and-requires-2 t)
     (parse-or-enum-known-right t)
-    (parse-or-enum-told-2 t)
+    (parse-or-enum-told-3 t)
     (parse-or-same-length-7 t)
     (parse-or-same-length-8 t)
     (parse-or-same-length-9 t)
@@ -1064,20 +1078,21 @@ pub +parse-and+parse-or+parse-primary-spec : {M : Type 1} → statement M
     (parse-primary-same-length-6 t)
     (parse-primary-returns-2 t)
     (parse-primary-enum-known-combinator t)
-    (parse-primary-token-at-requires-2 t)
+    (parse-primary-bracket-at-requires t)
     (parse-primary-enum-told-2 t)
     (parse-primary-refuse-requires-2 t)
     (parse-primary-returns-3 t)
+    (parse-primary-enum-told-3 t)
     (parse-primary-loop-holds t)
     (parse-primary-add-parse-or-2 t)
     (parse-primary-parse-or-requires-2 t)
     (parse-primary-enum-known-item t)
-    (parse-primary-enum-told-3 t)
+    (parse-primary-enum-told-4 t)
     (parse-primary-same-length-7 t)
     (parse-primary-same-length-8 t)
     (parse-primary-same-length-9 t)
     (parse-primary-returns-4 t)
-    (parse-primary-token-at-requires-3 t)
+    (parse-primary-token-at-requires-2 t)
     (parse-primary-enum-known-sign t)
     (parse-primary-loop-less t)
     (parse-primary-loop-again t)

@@ -1,12 +1,16 @@
 -- `print::put::put_rule` meets its contract: the walk over the children keeps what is put, and each child has fewer nodes than its
 -- parent. Assumes nothing.
-use mathlib.Core.Path.{ap}
+use mathlib.Core.Path.{_≡_, ap}
+use mathlib.Core.Logic.{⊎-elim}
 use Prim.Native.Nat.{ℕ, _+_, _-_, _≤_, _<_}
 use native.Mathlib.Omega.{arith}
 use lib.ListN.{length, length-append}
 use borrow.Author.Needs.{needs}
 use borrow.Fn.Kinds.{In}
 use borrow.Fn.PlainCycle.{Measures, is, falls, and}
+use Rattle.image.specs.Rule.{Rule, size}
+use Rattle.image.specs.Decode.{cellAt}
+use Rattle.image.specs.Standing.{Stands}
 use Rattle.image.specs.Valid.{nodeOf}
 use Rattle.image.specs.EncodeLaws.{size-pos}
 use Rattle.decide.specs.ReadingLaws.{name-inside}
@@ -71,7 +75,7 @@ put-rule-put-leaf-requires t c κs =
     let d = c .before .before .node-at .ensures in
     let h = s .pre .1 .0 .here in (
       name-inside _ _ _ d (s .pre .1 .0 .names) (omega (arith, the-node t s)),
-      rw (leaf-text _ _ _ _ d (c .before .if1 .taken) (h .rule) (h .sized) (h .stands)) (the-fit t s),
+      rw (leaf-text _ _ _ _ _ d (omega (arith, the-node t s)) (c .before .if1 .taken) (h .rule) (h .sized) (h .stands)) (the-fit t s),
       s .pre .1 .2,
     )
 
@@ -80,10 +84,11 @@ put-rule-same-length t c = search needs
 
 put-rule-returns : (t : ℕ) → put-rule-lts.Need-returns (given t) (put-rule-at t) put-rule.Post put-rule-Inv-loop put-rule-μ-loop
 put-rule-returns t c = λ ρ e st.
-    rw (← leaf-text _ _ _ _ (c .before .before .before .before .before .node-at .ensures) (c .before .before .before .before .if1 .taken) ρ e st) (c .before .before .put-leaf .ensures)
+    let s = c .before .before .before .before .before .before .before .before in
+    rw (← leaf-text _ _ _ _ _ (c .before .before .before .before .before .node-at .ensures) (omega (arith, the-node t s)) (c .before .before .before .before .if1 .taken) ρ e st) (c .before .before .put-leaf .ensures)
 
 put-rule-loop-holds : (t : ℕ) → put-rule-lts.Need-loop-holds (given t) (put-rule-at t) put-rule.Post put-rule-Inv-loop put-rule-μ-loop
-put-rule-loop-holds t c = (omega arith, walks-start _ _ _ _ (c .before .node-at .ensures) (c .if1 .left) (put-none _ _))
+put-rule-loop-holds t c = (omega arith, walks-start _ _ _ _ _ (c .before .node-at .ensures) (omega (arith, the-node t (c .before .before .before .before))) (c .if1 .left) (put-none _ _))
 
 put-rule-sub-node-at : (t : ℕ) → put-rule-lts.Need-sub-node-at (given t) (put-rule-at t) put-rule.Post put-rule-Inv-loop put-rule-μ-loop
 put-rule-sub-node-at t c = omega arith
@@ -113,39 +118,74 @@ put-rule-put-back-requires t c κs =
 put-rule-sub-stop : (t : ℕ) → put-rule-lts.Need-sub-stop (given t) (put-rule-at t) put-rule.Post put-rule-Inv-loop put-rule-μ-loop
 put-rule-sub-stop t c = omega (arith, the-turn t (c .before .before .before .before) .fits)
 
+-- where its back begins there is room for its text, inside the buffer
+the-place : (t : ℕ) (c : put-rule-lts.After-struct-known (given t) (put-rule-at t) put-rule.Post put-rule-Inv-loop put-rule-μ-loop) →
+    let s = c .before .before .before .before .before .before .before .before .before .before .before .before .args in
+    let d = c .before .before .before .before .before .node-at2 .result in
+    let p = c .before .before .before .put-back in
+    ((q : Rule) → size q ≡ d .size → Stands q (cellAt (s .image .now) (s .n)) (c .before .before .before .before .before .before .before .loop .stop - d .size) → length (textOf q) ≤ p .result) × (p .result ≤ length (p .last .1 .1 .1 .0))
+the-place t c =
+    let s = c .before .before .before .before .before .before .before .before .before .before .before .before in
+    let u = the-turn t (c .before .before .before .before .before) in
+    let p = c .before .before .before .put-back in
+    (child-room (the-fit t s) u (p .ensures .ends), omega (arith, p .ensures .ends, put-start (s .pre .1 .2) (u .holds)))
+
+put-rule-put-leaf-requires-2 : (t : ℕ) → put-rule-lts.Need-put-leaf-requires-2 (given t) (put-rule-at t) put-rule.Post put-rule-Inv-loop put-rule-μ-loop
+put-rule-put-leaf-requires-2 t c κs =
+    let s = c .before .before .before .before .before .before .before .before .before .before .before .before .before .before in
+    let d = c .before .before .before .before .before .before .before .node-at2 .ensures in
+    let u = the-turn t (c .before .before .before .before .before .before .before) in
+    let (room, long) = the-place t (c .before .before) in (
+      name-inside _ _ _ d (s .pre .1 .0 .names) (omega (arith, c .before .before .before .before .before .before .before .before .before .loop .inv .0, the-node t s)),
+      rw (leaf-text _ _ _ _ _ d (omega (arith, u .some, u .fits)) (c .before .if2 .taken) (u .child) (u .sized) (u .stands)) (room (u .child) (u .sized) (u .stands)),
+      long,
+    )
+
 put-rule-put-rule-requires : (t : ℕ) → put-rule-lts.Need-put-rule-requires (given t) (put-rule-at t) put-rule.Post put-rule-Inv-loop put-rule-μ-loop
 put-rule-put-rule-requires t c κs =
-    let s = c .before .before .before .before .before .before .before .before .before .before .before .before in
+    let s = c .before .before .before .before .before .before .before .before .before .before .before .before .before .before in
     let i = s .pre .1 .0 in
-    let u = the-turn t (c .before .before .before .before .before) in
+    let u = the-turn t (c .before .before .before .before .before .before .before) in
     let pos = u .some in
     let fits = u .fits in
-    let le = c .before .before .before .before .before .before .before .loop .inv .0 in
-    let p = c .before .before .before .put-back .ensures .ends in (
+    let le = c .before .before .before .before .before .before .before .before .before .loop .inv .0 in
+    let (room, long) = the-place t (c .before .before) in (
       omega (arith, s .pre .0),
       (
         record { long = i .long; names = i .names; within = omega (arith, the-node t s); here = record { rule = u .child; sized = u .sized; stands = u .stands } },
-        child-room (the-fit t s) u p,
-        omega (arith, put-start (s .pre .1 .2) (u .holds)),
+        room,
+        long,
       ),
     )
 
+-- its text is put, by either way
+the-text : (t : ℕ) (c : put-rule-lts.Joined2 (given t) (put-rule-at t) put-rule.Post put-rule-Inv-loop put-rule-μ-loop) →
+    let s = c .before .before .before .before .before .before .before .before .before .before .before .before .before .args in
+    let d = c .before .before .before .before .before .before .node-at2 .result in
+    let p = c .before .before .before .before .put-back in
+    (q : Rule) → size q ≡ d .size → Stands q (cellAt (s .image .now) (s .n)) (c .before .before .before .before .before .before .before .before .loop .stop - d .size) → Put (p .last .1 .1 .1 .0) (c .if2 .text) (c .if2 .to) (p .result) (textOf q)
+the-text t c q e st =
+    let u = the-turn t (c .before .before .before .before .before .before) in
+    ⊎-elim (λ w. rw (w .5, w .6, ← leaf-text _ _ _ _ _ (c .before .before .before .before .before .before .node-at2 .ensures) (omega (arith, u .some, u .fits)) (w .0 .taken) q e st) (w .2 .ensures)) (λ w. rw (w .5, w .6) (w .2 .ensures q e st)) (c .if2 .came)
+
 put-rule-put-front-requires : (t : ℕ) → put-rule-lts.Need-put-front-requires (given t) (put-rule-at t) put-rule.Post put-rule-Inv-loop put-rule-μ-loop
 put-rule-put-front-requires t c κs =
-    let s = c .before .before .before .before .before .before .before .before .before .before .before .before .before .before .before .before in
-    let u = the-turn t (c .before .before .before .before .before .before .before .before .before) in
-    let p = c .before .before .before .before .before .before .before .put-back .ensures .ends in
-    let q = c .before .before .before .put-rule .ensures (u .child) (u .sized) (u .stands) .ends in
-    (omega (arith, pieces-room (the-fit t s) u), omega (arith, put-start (s .pre .1 .2) (u .holds)))
+    let s = c .before .before .before .before .before .before .before .before .before .before .before .before .before .before in
+    let u = the-turn t (c .before .before .before .before .before .before .before) in
+    let (room, long) = the-place t (c .before .before) in
+    let p = c .before .before .before .before .before .put-back .ensures .ends in
+    let x = the-text t (c .before) (u .child) (u .sized) (u .stands) in
+    let q = x .ends in
+    (omega (arith, pieces-room (the-fit t s) u), put-start long x)
 
 put-rule-loop-less : (t : ℕ) → put-rule-lts.Need-loop-less (given t) (put-rule-at t) put-rule.Post put-rule-Inv-loop put-rule-μ-loop
-put-rule-loop-less t c = omega (arith, the-turn t (c .before .before .before .before .before .before .before .before .before .before .before .before) .some, the-turn t (c .before .before .before .before .before .before .before .before .before .before .before .before) .fits)
+put-rule-loop-less t c = let u = the-turn t (c .before .before .before .before .before .before .before .before .before .before) in omega (arith, u .some, u .fits)
 
 put-rule-loop-again : (t : ℕ) → put-rule-lts.Need-loop-again (given t) (put-rule-at t) put-rule.Post put-rule-Inv-loop put-rule-μ-loop
 put-rule-loop-again t c =
-    let long = c .before .before .before .before .before .before .before .before .before .before .before .before .before .before .before .before .before .before .before .pre .1 .2 in
-    let i = c .before .before .before .before .before .before .before .before .before .before .before .before .before .before .loop .inv in
-    (omega (arith, i .0), walks-next _ _ _ _ _ (i .1) (i .0) (c .before .before .before .before .before .before .before .before .before .before .before .before .before .loop-test .taken) (c .before .before .before .before .before .before .before .before .before .before .before .before .node-at2 .ensures) (λ q v e st h. put-before long (put-before long (put-before long h (c .before .before .before .before .before .before .before .before .before .before .put-back .ensures)) (c .before .before .before .before .before .before .put-rule .ensures q e st)) (c .before .before .put-front .ensures)))
+    let long = c .before .before .before .before .before .before .before .before .before .before .before .before .before .before .before .before .before .pre .1 .2 in
+    let i = c .before .before .before .before .before .before .before .before .before .before .before .before .loop .inv in
+    (omega (arith, i .0), walks-next _ _ _ _ _ (i .1) (i .0) (c .before .before .before .before .before .before .before .before .before .before .before .loop-test .taken) (c .before .before .before .before .before .before .before .before .before .before .node-at2 .ensures) (λ q v e st h. put-before long (put-before long (put-before long h (c .before .before .before .before .before .before .before .before .put-back .ensures)) (the-text t (c .before .before .before .before) q e st)) (c .before .before .put-front .ensures)))
 
 put-rule-put-opening-requires : (t : ℕ) → put-rule-lts.Need-put-opening-requires (given t) (put-rule-at t) put-rule.Post put-rule-Inv-loop put-rule-μ-loop
 put-rule-put-opening-requires t c κs =
@@ -183,6 +223,7 @@ pub +put-rule-spec : {M : Type 1} → statement M
     (put-rule-node-at-requires-2 t)
     (put-rule-put-back-requires t)
     (put-rule-sub-stop t)
+    (put-rule-put-leaf-requires-2 t)
     (put-rule-put-rule-requires t)
     (put-rule-put-front-requires t)
     (put-rule-loop-less t)

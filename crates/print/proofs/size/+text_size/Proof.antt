@@ -7,6 +7,9 @@ use lib.ListN.{length, length-append}
 use borrow.Author.Needs.{needs}
 use borrow.Fn.Kinds.{In}
 use borrow.Fn.PlainCycle.{Measures, is, falls, and}
+use Rattle.image.specs.Rule.{Rule, size}
+use Rattle.image.specs.Decode.{cellAt}
+use Rattle.image.specs.Standing.{Stands}
 use Rattle.image.specs.Valid.{nodeOf}
 use Rattle.image.specs.EncodeLaws.{size-pos}
 use Rattle.decide.specs.ReadingLaws.{name-inside}
@@ -66,13 +69,14 @@ text-size-leaf-size-requires t c κs =
 
 text-size-returns : (t : ℕ) → text-size-lts.Need-returns (given t) (text-size-at t) text-size.Post text-size-Inv-loop text-size-μ-loop
 text-size-returns t c = λ ρ e st.
-    rw (leaf-text _ _ _ _ (c .before .before .node-at .ensures) (c .before .if1 .taken) ρ e st) at (c .leaf-size .ensures)
+    let s = c .before .before .before .before in
+    rw (leaf-text _ _ _ _ _ (c .before .before .node-at .ensures) (omega (arith, the-node t s)) (c .before .if1 .taken) ρ e st) at (c .leaf-size .ensures)
 
 text-size-opening-size-requires : (t : ℕ) → text-size-lts.Need-opening-size-requires (given t) (text-size-at t) text-size.Post text-size-Inv-loop text-size-μ-loop
 text-size-opening-size-requires t c κs = search needs
 
 text-size-loop-holds : (t : ℕ) → text-size-lts.Need-loop-holds (given t) (text-size-at t) text-size.Post text-size-Inv-loop text-size-μ-loop
-text-size-loop-holds t c = (omega arith, walks-start _ _ _ _ (c .before .before .node-at .ensures) (c .before .if1 .left) (omega arith))
+text-size-loop-holds t c = (omega arith, walks-start _ _ _ _ _ (c .before .before .node-at .ensures) (omega (arith, the-node t (c .before .before .before .before))) (c .before .if1 .left) (omega arith))
 
 text-size-sub-node-at : (t : ℕ) → text-size-lts.Need-sub-node-at (given t) (text-size-at t) text-size.Post text-size-Inv-loop text-size-μ-loop
 text-size-sub-node-at t c = omega arith
@@ -110,30 +114,72 @@ text-size-add-total t c = omega (arith, the-room t c)
 text-size-sub-end : (t : ℕ) → text-size-lts.Need-sub-end (given t) (text-size-at t) text-size.Post text-size-Inv-loop text-size-μ-loop
 text-size-sub-end t c = omega (arith, the-turn t (c .before) .fits)
 
+-- fewer nodes are left
+the-less : (t : ℕ) (c : text-size-lts.After-around-size (given t) (text-size-at t) text-size.Post text-size-Inv-loop text-size-μ-loop) → let end = c .before .before .before .loop .end in end - c .before .node-at2 .result .size < end
+the-less t c = let u = the-turn t (c .before) in omega (arith, u .some, u .fits)
+
+-- r is how many bytes its own text has
+abbrev Counted : (t : ℕ) (c : text-size-lts.After-around-size (given t) (text-size-at t) text-size.Post text-size-Inv-loop text-size-μ-loop) → ℕ → Type 0
+Counted t c r =
+    let s = c .before .before .before .before .before .before .before .before .args in
+    let d = c .before .node-at2 .result in
+    (q : Rule) → size q ≡ d .size → Stands q (cellAt (s .image .now) (s .n)) (c .before .before .before .loop .end - d .size) → r ≡ length (textOf q)
+
+-- so they have room, and the walk goes on
+counted-room : (t : ℕ) (c : text-size-lts.After-around-size (given t) (text-size-at t) text-size.Post text-size-Inv-loop text-size-μ-loop) {r : ℕ} → Counted t c r → c .before .before .before .loop .total + c .around-size .result + r ≤ 134_348_800
+counted-room t c h =
+    let u = the-turn t (c .before) in
+    omega (arith, the-room t c, h (u .child) (u .sized) (u .stands))
+
+counted-next : (t : ℕ) (c : text-size-lts.After-around-size (given t) (text-size-at t) text-size.Post text-size-Inv-loop text-size-μ-loop) {r : ℕ} → Counted t c r →
+    let s = c .before .before .before .before .before .before .before .before .args in
+    let d = c .before .before .before .before .before .before .node-at .result in
+    let i = c .before .before .before .loop in
+    let end = i .end - c .before .node-at2 .result .size in
+    (end ≤ s .from + s .size - 1) × Walks (s .image .now) (s .n) (d .kind) (d .arg) (s .from) (s .size) end (λ t. i .total + c .around-size .result + r ≡ length (openingOf (d .kind) (d .arg)) + length t)
+counted-next t c h =
+    let i = c .before .before .before .loop .inv in
+    (omega (arith, i .0), walks-next _ _ _ _ _ (i .1) (i .0) (c .before .before .loop-test .taken) (c .before .node-at2 .ensures) (λ q v e st x. simp length-append (omega (arith, h q e st))))
+
+text-size-leaf-size-requires-2 : (t : ℕ) → text-size-lts.Need-leaf-size-requires-2 (given t) (text-size-at t) text-size.Post text-size-Inv-loop text-size-μ-loop
+text-size-leaf-size-requires-2 t c κs =
+    let s = c .before .before .before .before .before .before .before .before .before .before in
+    name-inside _ _ _ (c .before .before .before .node-at2 .ensures) (s .pre .1 .0 .names) (omega (arith, c .before .before .before .before .before .loop .inv .0, the-node t s))
+
+leaf-counted : (t : ℕ) (c : text-size-lts.After-leaf-size2 (given t) (text-size-at t) text-size.Post text-size-Inv-loop text-size-μ-loop) → Counted t (c .before .before .before) (c .leaf-size2 .result)
+leaf-counted t c q e st =
+    let u = the-turn t (c .before .before .before .before) in
+    rw (leaf-text _ _ _ _ _ (c .before .before .before .before .node-at2 .ensures) (omega (arith, u .some, u .fits)) (c .before .if2 .taken) q e st) at (c .leaf-size2 .ensures)
+
+text-size-add-total-2 : (t : ℕ) → text-size-lts.Need-add-total-2 (given t) (text-size-at t) text-size.Post text-size-Inv-loop text-size-μ-loop
+text-size-add-total-2 t c = omega (arith, counted-room t (c .before .before .before) (leaf-counted t c))
+
+text-size-loop-less : (t : ℕ) → text-size-lts.Need-loop-less (given t) (text-size-at t) text-size.Post text-size-Inv-loop text-size-μ-loop
+text-size-loop-less t c = the-less t (c .before .before .before)
+
+text-size-loop-again : (t : ℕ) → text-size-lts.Need-loop-again (given t) (text-size-at t) text-size.Post text-size-Inv-loop text-size-μ-loop
+text-size-loop-again t c = counted-next t (c .before .before .before) (leaf-counted t c)
+
 text-size-text-size-requires : (t : ℕ) → text-size-lts.Need-text-size-requires (given t) (text-size-at t) text-size.Post text-size-Inv-loop text-size-μ-loop
 text-size-text-size-requires t c κs =
-    let i = c .before .before .before .loop in
-    let s = c .before .before .before .before .before .before .before .before in
+    let i = c .before .before .before .before .before .loop in
+    let s = c .before .before .before .before .before .before .before .before .before .before in
     let n = the-node t s in
-    let u = the-turn t (c .before) in
+    let u = the-turn t (c .before .before .before) in
     let p = u .some in
     let q = u .fits in
     let le = i .inv .0 in
-    let lt : c .before .node-at2 .result .size < t = omega (arith, s .pre .0) in
+    let lt : c .before .before .before .node-at2 .result .size < t = omega (arith, s .pre .0) in
     (lt, (record { long = s .pre .1 .0 .long; names = s .pre .1 .0 .names; within = omega arith; here = record { rule = u .child; sized = u .sized; stands = u .stands } }, s .pre .1 .1))
 
-text-size-add-total-2 : (t : ℕ) → text-size-lts.Need-add-total-2 (given t) (text-size-at t) text-size.Post text-size-Inv-loop text-size-μ-loop
-text-size-add-total-2 t c =
-    let u = the-turn t (c .before .before) in
-    omega (arith, the-room t (c .before), c .text-size .ensures (u .child) (u .sized) (u .stands))
+text-size-add-total-3 : (t : ℕ) → text-size-lts.Need-add-total-3 (given t) (text-size-at t) text-size.Post text-size-Inv-loop text-size-μ-loop
+text-size-add-total-3 t c = omega (arith, counted-room t (c .before .before .before) (c .text-size .ensures))
 
-text-size-loop-less : (t : ℕ) → text-size-lts.Need-loop-less (given t) (text-size-at t) text-size.Post text-size-Inv-loop text-size-μ-loop
-text-size-loop-less t c = omega (arith, the-turn t (c .before .before) .some, the-turn t (c .before .before) .fits)
+text-size-loop-less-2 : (t : ℕ) → text-size-lts.Need-loop-less-2 (given t) (text-size-at t) text-size.Post text-size-Inv-loop text-size-μ-loop
+text-size-loop-less-2 t c = the-less t (c .before .before .before)
 
-text-size-loop-again : (t : ℕ) → text-size-lts.Need-loop-again (given t) (text-size-at t) text-size.Post text-size-Inv-loop text-size-μ-loop
-text-size-loop-again t c =
-    let i = c .before .before .before .before .loop in
-    (omega (arith, i .inv .0), walks-next _ _ _ _ _ (i .inv .1) (i .inv .0) (c .before .before .before .loop-test .taken) (c .before .before .node-at2 .ensures) (λ q t e st h. simp length-append (omega (arith, c .text-size .ensures q e st))))
+text-size-loop-again-2 : (t : ℕ) → text-size-lts.Need-loop-again-2 (given t) (text-size-at t) text-size.Post text-size-Inv-loop text-size-μ-loop
+text-size-loop-again-2 t c = counted-next t (c .before .before .before) (c .text-size .ensures)
 
 text-size-returns-2 : (t : ℕ) → text-size-lts.Need-returns-2 (given t) (text-size-at t) text-size.Post text-size-Inv-loop text-size-μ-loop
 text-size-returns-2 t c = λ ρ e st.
@@ -158,8 +204,12 @@ pub +text-size-spec : {M : Type 1} → statement M
     (text-size-around-size-requires t)
     (text-size-add-total t)
     (text-size-sub-end t)
-    (text-size-text-size-requires t)
+    (text-size-leaf-size-requires-2 t)
     (text-size-add-total-2 t)
     (text-size-loop-less t)
     (text-size-loop-again t)
+    (text-size-text-size-requires t)
+    (text-size-add-total-3 t)
+    (text-size-loop-less-2 t)
+    (text-size-loop-again-2 t)
     (text-size-returns-2 t)
