@@ -16,8 +16,8 @@ use words::Scanned;
 use words::Token;
 use words::foreign_at;
 use words::place_of;
+use words::reader::token_from;
 use words::scan;
-use words::token_at;
 
 // The bytes that any image fits in.
 pub const IMAGE_BYTES: usize = 26_628;
@@ -47,7 +47,7 @@ fn parse_whole(
     let Reach::Done { next, n, m } = whole else {
         return whole;
     };
-    let rest = token_at(text, next, class);
+    let rest = token_from(text, next, class);
     let Token::End { place: _ } = rest else {
         return refuse(refusals::TRAILING_TOKEN, place_of(rest));
     };

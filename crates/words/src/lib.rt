@@ -1,4 +1,6 @@
 // The tokens of a text: what stands at a position, and where the text goes on.
+pub mod reader;
+
 ghost use mathlib.Core.Path.{_≡_};
 ghost use Prim.Native.Nat.{_≤_, _<_};
 ghost use lib.ListN.{length};

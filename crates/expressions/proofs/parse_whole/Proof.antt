@@ -29,8 +29,8 @@ returns c =
     let p = c .before .before .before .before .before .before .before .before .parse-or .ensures in
     answered-refused (c .enum-told .given .1) (parse-refused _ (p .refused _ (c .enum-told .given .1)))
 
-token-at-requires : tie.Need-token-at-requires
-token-at-requires c κs = search needs
+token-from-requires : tie.Need-token-from-requires
+token-from-requires c κs = search needs
 
 enum-told-2 : tie.Need-enum-told-2
 enum-told-2 c = search needs
@@ -53,7 +53,7 @@ same-length-6 c = search needs
 returns-2 : tie.Need-returns-2
 returns-2 c =
     let p = c .before .before .before .before .before .before .before .before .before .before .before .before .before .parse-or .ensures in
-    let t = c .before .before .before .token-at in
+    let t = c .before .before .before .token-from in
     answered-refused (c .refuse .ensures)
     (parse-trailing _ (p .done _ _ _ (c .before .before .before .before .before .whole .given .1)) (sym (t .ensures)) (not-kind (others 0) 0 tt (t .result) (c .before .before .match2 .keys2)) (c .before .place-of .ensures))
 
@@ -69,7 +69,7 @@ same-length-9 c = search needs
 returns-3 : tie.Need-returns-3
 returns-3 c =
     let p = c .before .before .before .before .before .before .before .before .before .before .before .before .parse-or .ensures in
-    answered-done (parse-whole _ (p .done _ _ _ (c .before .before .before .before .whole .given .1)) (sym (c .before .before .token-at .ensures) ∙ c .enum-told2 .given .1))
+    answered-done (parse-whole _ (p .done _ _ _ (c .before .before .before .before .whole .given .1)) (sym (c .before .before .token-from .ensures) ∙ c .enum-told2 .given .1))
 
 pub parse-whole-spec : {M : Type 1} → statement M
 parse-whole-spec =
@@ -82,7 +82,7 @@ parse-whole-spec =
     same-length-2
     same-length-3
     returns
-    token-at-requires
+    token-from-requires
     enum-told-2
     place-of-requires
     refuse-requires

@@ -1,0 +1,57 @@
+// The word reader: a text and a position in it, kept together. Each function is thin: the work is done by those of
+// `words`, whose parameters are plain.
+ghost use mathlib.Core.Path.{_≡_};
+ghost use Prim.Native.Nat.{_≤_};
+ghost use lib.ListN.{length};
+ghost use Rattle.ascii.specs.Text.{part};
+ghost use Rattle.classes.specs.Class.{faults};
+ghost use Rattle.words.specs.Token.{tokenAt};
+use crate::Token;
+
+pub struct WordReader<'a> {
+    text: &'a [u8],
+    pos: usize,
+}
+
+impl<'a> WordReader<'a> {
+    // A reader at the start of a text.
+    pub fn new(text: &'a [u8]) -> WordReader<'a>
+        ensures { λ r. ⌜ (r .text ≡ text .entry) × (r .pos ≡ 0) ⌝ }
+    {
+        WordReader { text, pos: 0 }
+    }
+
+    // A reader of the same text at another position.
+    pub fn moved(self, to: usize) -> WordReader<'a>
+        ensures { λ r. ⌜ (r .text ≡ self .entry .text) × (r .pos ≡ to) ⌝ }
+    {
+        WordReader {
+            text: self.text,
+            pos: to,
+        }
+    }
+
+    // The first token from the position on.
+    pub fn peek(self, class: &[u8; 256]) -> Token
+        requires { ⌜ faults (now class) ≡ 0 ⌝ }
+        ensures { λ r. ⌜ r ≡ tokenAt (now (self .entry .text)) (self .entry .pos) ⌝ }
+    {
+        crate::token_at(self.text, self.pos, class)
+    }
+
+    // A word, handed back as that part of the text.
+    pub fn word(self, start: usize, end: usize) -> &'a [u8]
+        requires { ⌜ (start ≤ end) × (end ≤ length (now (self .text))) ⌝ }
+        ensures { λ r. ⌜ now r ≡ part (now (self .entry .text)) start end ⌝ }
+    {
+        crate::word_of(self.text, start, end)
+    }
+}
+
+// The first token from a position on, by a reader of the text that is moved there: its caller needs no walk by hand.
+pub fn token_from(text: &[u8], at: usize, class: &[u8; 256]) -> Token
+    requires { ⌜ faults (now class) ≡ 0 ⌝ }
+    ensures { λ r. ⌜ r ≡ tokenAt (now (text .entry)) at ⌝ }
+{
+    WordReader::new(text).moved(at).peek(class)
+}
