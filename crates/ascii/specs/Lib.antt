@@ -1,8 +1,9 @@
 pub mod Text
-pub mod TextLaws
-pub mod LargestLaws
 pub mod Letters
-pub mod LettersLaws
-pub mod TestLaws
+pub mod Search
 pub mod Written
+pub mod TextLaws
+pub mod LettersLaws
+pub mod SearchLaws
+pub mod TestLaws
 pub mod WrittenLaws

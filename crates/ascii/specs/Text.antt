@@ -1,6 +1,6 @@
 -- A text is the list of its bytes: what a literal stands for, a part of a text, and how far a run of like bytes goes.
 -- Assumes nothing.
-use Prim.Native.Nat.{ℕ, suc, _+_, _-_, max}
+use Prim.Native.Nat.{ℕ, suc, _+_, _-_}
 use Prim.Native.Char.{code}
 use Prim.Native.String.{String}
 use Prim.Native.String as String
@@ -26,8 +26,3 @@ run p (b ∷ s) = let more = suc (run p s) in cond (p b) more 0
 unfoldable pub runEnd : (ℕ → Bool) → List ℕ → ℕ → ℕ
 unfolding run
 runEnd p s at = at + run p (drop at s)
-
--- the largest byte of a list, or 0
-unfoldable pub largest : List ℕ → ℕ
-largest [] = 0
-largest (b ∷ s) = max b (largest s)

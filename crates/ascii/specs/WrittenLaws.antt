@@ -77,6 +77,19 @@ put-before {a} {b} {c} {p} {s} {e} {v} {w} h x y =
       text = y .text ∙ rw (x .text) (written-before a p s v w (omega arith) (y .ends));
     }
 
+-- where it begins is told by where it ends
+pub put-from : {a b : List ℕ} {s e : ℕ} {v : List ℕ} (t : ℕ) → t + length v ≡ e → Put a b s e v → Put a b t e v
+put-from {a} {b} {s} {e} {v} t q x = let h : s ≡ t = omega arith in rw h at x
+
+-- what is put behind what was put
+pub put-behind : {a b c : List ℕ} {s p e : ℕ} {v w : List ℕ} → s ≤ length a → Put a b s p v → Put b c p e w → Put a c s e (v ++ w)
+put-behind {a} {b} {c} {s} {p} {e} {v} {w} h x y = record { ends = rw length-append (omega arith); text = written-then a s h v w p (x .ends) (x .text) (y .text) }
+
+-- what was put ends what stands before its end
+pub put-front : {a b : List ℕ} {s e : ℕ} {v : List ℕ} → s ≤ length a → Put a b s e v → take e b ≡ take s a ++ v
+unfolding written
+put-front {a} {b} {s} {e} {v} h x = rw (x .text, ← append-assoc (take s a) v _) (take-at (take s a ++ v) _ e (head-length a s h v ∙ x .ends))
+
 -- a text keeps its length
 pub put-length : {a b : List ℕ} {s e : ℕ} {v : List ℕ} → e ≤ length a → Put a b s e v → length b ≡ length a
 unfolding written

@@ -1,6 +1,3 @@
 pub mod Outcome
-pub mod Parses
-pub mod ArrayLaws
-pub mod ChainLaws
-pub mod ParseLaws
+pub mod Parsing
 pub mod ReadLaws

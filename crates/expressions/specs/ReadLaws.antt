@@ -29,10 +29,11 @@ use Rattle.expressions.specs.Outcome.{outcome, readingOf, readInto}
 use Rattle.grammar.specs.Heads.{left}
 use Rattle.grammar.specs.TokenListLaws.{first-place}
 use Rattle.grammar.specs.CleanLaws.{read-clean}
-use Rattle.expressions.specs.Parses as parses
-use Rattle.expressions.specs.Parses.{Arrays, Whole, Answered, Ended, Finished}
-use Rattle.expressions.specs.declared.parse.Reach.{Reach}
-use Rattle.expressions.specs.declared.parse.Reach.the-variants.{Done, Refused as Failed}
+use Rattle.parser.specs.Parses as parses
+use Rattle.parser.specs.Parses.{Arrays}
+use Rattle.parser.specs.declared.Reach.{Reach}
+use Rattle.parser.specs.declared.Reach.the-variants.{Done, Refused as Failed}
+use Rattle.expressions.specs.Parsing.{Whole, Answered, Ended, Finished}
 use Rattle.expressions.specs.declared.Reading.the-variants.{Read as Written, Refused as Unread}
 
 -- ---- an answer, by its case

@@ -1,16 +1,15 @@
 // Expressions: from a text to a rule image.
-pub mod parse;
-
 ghost use mathlib.Core.Path.{_≡_};
 ghost use Prim.Native.Nat.{_+_, _*_, _≤_};
 ghost use lib.ListN.{length};
 ghost use Rattle.classes.specs.Class.{faults};
 ghost use Rattle.grammar.specs.Reading.{readOf};
-ghost use Rattle.expressions.specs.Parses.{arrays, Ready, Ended, Finished};
+ghost use Rattle.parser.specs.Parses.{arrays};
+ghost use Rattle.expressions.specs.Parsing.{Ready, Ended, Finished};
 ghost use Rattle.expressions.specs.Outcome.{outcome, readingOf, readInto};
-use crate::parse::Reach;
-use crate::parse::parse_or;
-use crate::parse::refuse;
+use parser::Reach;
+use parser::parse_or;
+use parser::refuse;
 use refusals::Refusal;
 use words::Scanned;
 use words::Token;

@@ -12,7 +12,8 @@ use Rattle.words.specs.declared.Token.{Token}
 use Rattle.words.specs.declared.Token.the-variants.{End, Open, Close, Comma, And, Or, Word, Fault}
 use Rattle.words.specs.declared.Next.{Next}
 use Rattle.words.specs.declared.Next.the-variants.{Off, To}
-use Rattle.words.specs.Token.{placeOf, nextOf, tokenAt, tokensFrom, behind, Lexed}
+use Rattle.words.specs.Token.{placeOf, nextOf, tokenAt, tokensFrom}
+use Rattle.words.specs.Bounds.{behind, Lexed}
 use Rattle.words.specs.TokenLaws.{lexed}
 use Rattle.grammar.specs.Grammar.{tokenKind, missing, after, firstPlace}
 use Rattle.grammar.specs.TokenListLaws.{Signed, signed, first-place, after-off}

@@ -11,7 +11,8 @@ use Rattle.words.specs.declared.Token.{Token}
 use Rattle.words.specs.declared.Token.the-variants.{End, Open, Close, Comma, And, Or, Word, Fault}
 use Rattle.words.specs.declared.Scanned.{Scanned}
 use Rattle.words.specs.declared.Scanned.the-variants.{Clean, Refused}
-use Rattle.words.specs.Token.{ascii, tokenAt, nextOf, onward, tokensBy, tokensFrom, scanOf, Lexed}
+use Rattle.words.specs.Token.{ascii, tokenAt, nextOf, onward, tokensBy, tokensFrom, scanOf}
+use Rattle.words.specs.Bounds.{Lexed}
 use Rattle.words.specs.TokenLaws.{by-cond, lexed}
 use Rattle.image.specs.Rule.{Join, all, any, Rule, Rules, nil, more}
 use Rattle.grammar.specs.Grammar as grammar

@@ -10,7 +10,8 @@ use Rattle.words.specs.declared.Token.{Token}
 use Rattle.words.specs.declared.Token.the-variants.{End, Open, Close, Comma, And, Or, Word, Fault}
 use Rattle.words.specs.declared.Next.{Next}
 use Rattle.words.specs.declared.Next.the-variants.{Off, To}
-use Rattle.words.specs.Token.{placeOf, nextOf, tokenAt, onward, tokensFrom, Lexed}
+use Rattle.words.specs.Token.{placeOf, nextOf, tokenAt, onward, tokensFrom}
+use Rattle.words.specs.Bounds.{Lexed}
 use Rattle.words.specs.TokenLaws.{tokens-are, goes-on, left-on, lexed}
 use Rattle.grammar.specs.Grammar.{tokenKind, rest, missing, after, firstPlace, due, undue, dueBy, dueIn, commaSign, closeSign}
 use Rattle.grammar.specs.Heads.{left}

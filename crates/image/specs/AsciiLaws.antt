@@ -7,7 +7,7 @@ use native.Mathlib.Omega.{arith}
 use borrow.Author.Tests.{ltb-true, ltb-false, lt-ltb, le-ltb}
 use lib.Dec.{ltb}
 use lib.ListN.{take, drop}
-use Rattle.ascii.specs.Text.{largest}
+use Rattle.ascii.specs.Search.{largest}
 use Rattle.image.specs.Encode.{allAscii}
 
 max-below : (a b k : ℕ) → (ltb a k && ltb b k) ≡ ltb (max a b) k

@@ -52,7 +52,7 @@ pub fn le8(s: &[u8], at: usize) -> u64
 }
 
 // Writes a number in two bytes, the lowest first.
-fn put2(s: &mut [u8], at: usize, x: u64)
+pub fn put2(s: &mut [u8], at: usize, x: u64)
     requires { ⌜ at + 2 ≤ length (now s) ⌝ }
     ensures { λ _. ⌜ now (s .exit) ≡ written (now (s .entry)) at (leBytes 2 x) ⌝ }
 {

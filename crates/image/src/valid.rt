@@ -1,4 +1,4 @@
-// Whether bytes are a rule's image: one forward pass over the nodes, no recursion.
+// Whether bytes are a rule's image: forward passes over the nodes, no recursion.
 ghost use mathlib.Core.Path.{_≡_};
 ghost use mathlib.Core.Option.{some};
 ghost use Prim.Native.Nat.{ℕ, suc, _+_, _-_, _*_, _<_, _≤_, _/_, _%_};

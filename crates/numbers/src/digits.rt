@@ -1,6 +1,6 @@
 // The digits of a number: how many there are, and the digits put into a text.
 ghost use mathlib.Core.Path.{_≡_};
-ghost use Prim.Native.Nat.{_≤_};
+ghost use Prim.Native.Nat.{_+_, _≤_};
 ghost use lib.ListN.{length};
 ghost use Rattle.ascii.specs.Written.{Put};
 ghost use Rattle.numbers.specs.Digits.{digitsOf};
@@ -33,4 +33,14 @@ pub fn put_digits(text: &mut [u8], end: usize, n: u64) -> usize
     at -= 1;
     text[at] = b'0' + left as u8;
     at
+}
+
+// Puts a number's digits from a position on, and answers where they end.
+pub fn append_digits(text: &mut [u8], at: usize, n: u64) -> usize
+    requires { ⌜ at + 20 ≤ length (now text) ⌝ }
+    ensures { λ r. ⌜ Put (now (text .entry)) (now (text .exit)) at r (digitsOf n) ⌝ }
+{
+    let end = at + digit_count(n);
+    put_digits(text, end, n);
+    end
 }

@@ -1,8 +1,9 @@
 -- Document 01's table of refusals: a number for each cause, and its word. Assumes nothing.
 use Prim.Native.Nat.{ℕ}
+use Prim.Native.Char.{code}
 use Prim.Native.String.{String}
 use mathlib.Core.List.{List, [], _∷_, _++_}
-use lib.ListN.{take, getD}
+use lib.ListN.{take, getD, replicate}
 use Rattle.ascii.specs.Text.{bytes}
 use Rattle.refusals.specs.declared.Refusal.{Refusal}
 use Rattle.refusals.specs.declared.Row.{Row}
@@ -99,37 +100,41 @@ archiveOnly = 22
 abbrev pub refusal : ℕ → ℕ → Refusal
 refusal n p = record { number = n; place = p }
 
--- a row: a number and its word, filled up with blanks to 18 bytes
-abbrev pub row : ℕ → String → Row
-row n w = record { number = n; word = take 18 (bytes w ++ bytes "                  ") }
+-- a literal filled up with blanks to k bytes
+abbrev filled : ℕ → String → List ℕ
+filled k w = take k (bytes w ++ replicate k (code " "))
+
+-- a row: a number, its word, and what that means to a person
+abbrev pub row : ℕ → String → String → Row
+row n w m = record { number = n; word = filled 18 w; meaning = filled 64 m }
 
 -- the table, whose rows are numbered from 1
 abbrev pub table : List Row
 table =
-    row shortBuffer "short buffer" ∷
-    row longText "long text" ∷
-    row foreignByte "foreign byte" ∷
-    row halfSign "half sign" ∷
-    row openQuote "open quote" ∷
-    row strayCharacter "stray character" ∷
-    row noExpression "no expression" ∷
-    row openBracket "open bracket" ∷
-    row trailingToken "trailing token" ∷
-    row unknownFunction "unknown function" ∷
-    row missingArgument "missing argument" ∷
-    row badCount "bad count" ∷
-    row badDuration "bad duration" ∷
-    row emptyList "empty list" ∷
-    row tooDeep "too deep" ∷
-    row badImage "bad image" ∷
-    row badStoreTable "bad store table" ∷
-    row twinName "twin name" ∷
-    row badConfirmedList "bad confirmed list" ∷
-    row unknownStore "unknown store" ∷
-    row unconfirmed "unconfirmed" ∷
-    row archiveOnly "archive only" ∷
+    row shortBuffer "short buffer" "the lent output is too short" ∷
+    row longText "long text" "the rule has more than 2,048 bytes" ∷
+    row foreignByte "foreign byte" "this byte is not ASCII" ∷
+    row halfSign "half sign" "this sign stands alone: write `&&` or `||`" ∷
+    row openQuote "open quote" "this quote is not closed" ∷
+    row strayCharacter "stray character" "nothing in a rule begins with this character" ∷
+    row noExpression "no expression" "an expression is expected here" ∷
+    row openBracket "open bracket" "a `)` is expected here" ∷
+    row trailingToken "trailing token" "the rule is complete before this" ∷
+    row unknownFunction "unknown function" "there is no function of this name" ∷
+    row missingArgument "missing argument" "a count, a duration or a comma is expected here" ∷
+    row badCount "bad count" "this is not a count" ∷
+    row badDuration "bad duration" "this is not a duration, as 30d or 12h30m is" ∷
+    row emptyList "empty list" "this function needs an argument" ∷
+    row tooDeep "too deep" "64 brackets are open already" ∷
+    row badImage "bad image" "the bytes are not the image of a rule" ∷
+    row badStoreTable "bad store table" "the bytes are not a table of stores" ∷
+    row twinName "twin name" "two stores have this name" ∷
+    row badConfirmedList "bad confirmed list" "the bytes are not a list of confirmed stores" ∷
+    row unknownStore "unknown store" "the rule names a store that is not in the table" ∷
+    row unconfirmed "unconfirmed" "the rule says evict with nothing confirmed" ∷
+    row archiveOnly "archive only" "the rule says evict with only write-only stores confirmed" ∷
     []
 
--- the row of a number; a number that is in no row has a blank word
+-- the row of a number; a number that is in no row has a blank word and no meaning
 unfoldable pub rowOf : ℕ → Row
-rowOf n = getD (row 0 "" ∷ table) n (row n "")
+rowOf n = getD (row 0 "" "" ∷ table) n (row n "" "")

@@ -17,12 +17,12 @@ any-default (x ∷ l) (suc i) d e h = any-default l i d e (le-of-suc-le-suc h)
 pub row-in : (n : ℕ) (d : Row) → (n ≡ 0 → ⊥) → n - 1 < 22 → getD table (n - 1) d ≡ rowOf n
 unfolding rowOf
 row-in zero d h k = absurd (h refl)
-row-in (suc i) d h k = let e : suc i - 1 ≡ i = omega arith in rw e (any-default table i d (row (suc i) "") (omega arith))
+row-in (suc i) d h k = let e : suc i - 1 ≡ i = omega arith in rw e (any-default table i d (row (suc i) "" "") (omega arith))
 
-pub row-out : (n : ℕ) → 22 < n → row n "" ≡ rowOf n
+pub row-out : (n : ℕ) → 22 < n → row n "" "" ≡ rowOf n
 unfolding rowOf
-row-out n h = rw (List·getD-eq-default (row 0 "" ∷ table) (row n "") {n = n} h)
+row-out n h = rw (List·getD-eq-default (row 0 "" "" ∷ table) (row n "" "") {n = n} h)
 
-pub row-zero : (n : ℕ) → n ≡ 0 → row n "" ≡ rowOf n
+pub row-zero : (n : ℕ) → n ≡ 0 → row n "" "" ≡ rowOf n
 unfolding rowOf
 row-zero n h = rw h

@@ -74,104 +74,127 @@ pub const UNCONFIRMED: u8 = 21;
 // archive only: evicts on write-only stores alone.
 pub const ARCHIVE_ONLY: u8 = 22;
 
-// A row of the table: a number and its word, filled up with blanks.
+// A row of the table: a number, its word and what that means to a person, both filled up with blanks.
 pub struct Row {
     pub number: u8,
     pub word: [u8; 18],
+    pub meaning: [u8; 64],
 }
 
 const TABLE: [Row; 22] = [
     Row {
         number: SHORT_BUFFER,
         word: *b"short buffer      ",
+        meaning: *b"the lent output is too short                                    ",
     },
     Row {
         number: LONG_TEXT,
         word: *b"long text         ",
+        meaning: *b"the rule has more than 2,048 bytes                              ",
     },
     Row {
         number: FOREIGN_BYTE,
         word: *b"foreign byte      ",
+        meaning: *b"this byte is not ASCII                                          ",
     },
     Row {
         number: HALF_SIGN,
         word: *b"half sign         ",
+        meaning: *b"this sign stands alone: write `&&` or `||`                      ",
     },
     Row {
         number: OPEN_QUOTE,
         word: *b"open quote        ",
+        meaning: *b"this quote is not closed                                        ",
     },
     Row {
         number: STRAY_CHARACTER,
         word: *b"stray character   ",
+        meaning: *b"nothing in a rule begins with this character                    ",
     },
     Row {
         number: NO_EXPRESSION,
         word: *b"no expression     ",
+        meaning: *b"an expression is expected here                                  ",
     },
     Row {
         number: OPEN_BRACKET,
         word: *b"open bracket      ",
+        meaning: *b"a `)` is expected here                                          ",
     },
     Row {
         number: TRAILING_TOKEN,
         word: *b"trailing token    ",
+        meaning: *b"the rule is complete before this                                ",
     },
     Row {
         number: UNKNOWN_FUNCTION,
         word: *b"unknown function  ",
+        meaning: *b"there is no function of this name                               ",
     },
     Row {
         number: MISSING_ARGUMENT,
         word: *b"missing argument  ",
+        meaning: *b"a count, a duration or a comma is expected here                 ",
     },
     Row {
         number: BAD_COUNT,
         word: *b"bad count         ",
+        meaning: *b"this is not a count                                             ",
     },
     Row {
         number: BAD_DURATION,
         word: *b"bad duration      ",
+        meaning: *b"this is not a duration, as 30d or 12h30m is                     ",
     },
     Row {
         number: EMPTY_LIST,
         word: *b"empty list        ",
+        meaning: *b"this function needs an argument                                 ",
     },
     Row {
         number: TOO_DEEP,
         word: *b"too deep          ",
+        meaning: *b"64 brackets are open already                                    ",
     },
     Row {
         number: BAD_IMAGE,
         word: *b"bad image         ",
+        meaning: *b"the bytes are not the image of a rule                           ",
     },
     Row {
         number: BAD_STORE_TABLE,
         word: *b"bad store table   ",
+        meaning: *b"the bytes are not a table of stores                             ",
     },
     Row {
         number: TWIN_NAME,
         word: *b"twin name         ",
+        meaning: *b"two stores have this name                                       ",
     },
     Row {
         number: BAD_CONFIRMED_LIST,
         word: *b"bad confirmed list",
+        meaning: *b"the bytes are not a list of confirmed stores                    ",
     },
     Row {
         number: UNKNOWN_STORE,
         word: *b"unknown store     ",
+        meaning: *b"the rule names a store that is not in the table                 ",
     },
     Row {
         number: UNCONFIRMED,
         word: *b"unconfirmed       ",
+        meaning: *b"the rule says evict with nothing confirmed                      ",
     },
     Row {
         number: ARCHIVE_ONLY,
         word: *b"archive only      ",
+        meaning: *b"the rule says evict with only write-only stores confirmed       ",
     },
 ];
 
-// The row of a number, by which a program tells a person what was refused; a number that no refusal has gets a blank word.
+// The row of a number, by which a program tells a person what was refused; a number that no refusal has gets blanks.
 pub fn row_of(number: u8) -> Row
     ensures { λ r. ⌜ r ≡ rowOf number ⌝ }
 {
@@ -179,6 +202,7 @@ pub fn row_of(number: u8) -> Row
         return Row {
             number,
             word: [b' '; 18],
+            meaning: [b' '; 64],
         };
     }
     let i = (number - 1) as usize;
@@ -188,6 +212,7 @@ pub fn row_of(number: u8) -> Row
         Row {
             number,
             word: [b' '; 18],
+            meaning: [b' '; 64],
         }
     }
 }

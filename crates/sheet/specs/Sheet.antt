@@ -1,8 +1,8 @@
--- Worked examples of tokens, counts, durations, reading, judging and printing, held together as one table and proved by one statement over
--- all of its rows. Assumes nothing.
+-- Worked examples of tokens, counts, durations, reading, judging, printing and reporting, held together as one table and proved by one
+-- statement over all of its rows. Assumes nothing.
 use mathlib.Core.Path.{_≡_, refl}
 use mathlib.Core.Bool.{true, false}
-use mathlib.Core.List.{List, [], _∷_, map, List·Memᴰ, List·Memᴰ·head, List·Memᴰ·tail}
+use mathlib.Core.List.{List, [], _∷_, _++_, map, List·Memᴰ, List·Memᴰ·head, List·Memᴰ·tail}
 use Prim.Native.Nat.{ℕ}
 use Prim.Native.String.{String}
 use Rattle.ascii.specs.Text.{bytes, part, run, runEnd}
@@ -32,10 +32,21 @@ use Rattle.print.specs.Print.{textOf}
 use Rattle.safety.specs.Check.{unknownIn, checkRule, judgeOf}
 use Rattle.safety.specs.declared.Verdict.{Verdict}
 use Rattle.safety.specs.declared.Verdict.the-variants.{Pass, Refused as NotPassed}
+use Rattle.ascii.specs.Search.{behindLast}
+use Rattle.refusals.specs.Refusals.{rowOf}
+use Rattle.numbers.specs.Digits.{digitsOf}
+use Rattle.image.specs.Encode.{encode}
+use Rattle.image.specs.Decode.{meaning, nodeAt, cellAt}
+use Rattle.lines.specs.Lines.{shownAll, markedLine}
+use Rattle.stores.specs.TableBytes.{tableOf}
+use Rattle.arguments.specs.Arguments.{split, storesIn}
+use Rattle.report.specs.Report.{confirmedLines, detail}
+use Rattle.page.specs.Page.{judgedText, reportOf}
 
 -- a row: a text, and its tokens, its first fault, the number that it is as a count or as a duration, the rule that it reads as
 -- with how many nodes that has, the refusal of reading it, its number and its place, or with a table of stores what it is judged; or
--- what the rule that it reads as is printed as. And a rule, with what it is printed as
+-- what the rule that it reads as is printed as. And a rule, with what it is printed as. And a text and stores given as arguments, with the
+-- lines that are printed for a person
 pub data Row : Type 0 where
   tokens : String → List Token → Row
   scan : String → Scanned → Row
@@ -46,6 +57,7 @@ pub data Row : Type 0 where
   judges : List ℕ → String → Verdict → Row
   reprints : String → String → Row
   prints : Rule → String → Row
+  reports : String → List String → List String → Row
 
 pub data Answer : Type 0 where
   tokenList : List Token → Answer
@@ -55,6 +67,11 @@ pub data Answer : Type 0 where
   aRefusal : Refusal → Answer
   aVerdict : Verdict → Answer
   aText : List ℕ → Answer
+
+-- literals one behind the other, each with this byte behind it
+unfoldable pub ended : ℕ → List String → List ℕ
+ended b [] = []
+ended b (w ∷ ws) = bytes w ++ (b ∷ ended b ws)
 
 abbrev pub readAnswer : Read → Answer
 readAnswer (rule r) = aRule r (size r)
@@ -75,6 +92,7 @@ answerOf (refuses t n p) = readAnswer (readOf (bytes t))
 answerOf (judges s t v) = aVerdict (judgeOf (bytes t) s)
 answerOf (reprints t u) = printAnswer (readOf (bytes t))
 answerOf (prints r u) = aText (textOf r)
+answerOf (reports t gs ls) = aText (reportOf (bytes t) (ended 0 gs))
 
 -- what the row says
 unfoldable pub expected : Row → Answer
@@ -87,6 +105,7 @@ expected (refuses t n p) = aRefusal (refusal n p)
 expected (judges s t v) = aVerdict v
 expected (reprints t u) = aText (bytes u)
 expected (prints r u) = aText (bytes u)
+expected (reports t gs ls) = aText (ended 10 ls)
 
 -- a bare word and a quoted one, from its place up to where the text goes on
 abbrev bare : ℕ → ℕ → Token
@@ -123,6 +142,9 @@ twins = 3 ∷ 0 ∷ 9 ∷ 0 ∷ 0 ∷ 2 ∷ 0 ∷ 3 ∷ 3 ∷ 3 ∷ bytes "nasna
 
 abbrev no : ℕ → ℕ → Verdict
 no n p = NotPassed (refusal n p)
+
+abbrev two-stores : List String
+two-stores = "nas:read-write" ∷ "vault:write-only" ∷ []
 
 abbrev pub rows : List Row
 rows =
@@ -239,11 +261,26 @@ rows =
     prints (leaf (olderThan 59_999_999_940_000)) "older_than(694444d10h39m)" ∷
     prints (leaf (olderThan 999_999_999_000)) "older_than(11574d1h46m39s)" ∷
     prints (leaf (olderThan 999_999_999)) "older_than(11d13h46m39s999ms)" ∷
+    reports "older_than(30d) && readable(1)" two-stores ("pass" ∷ "at any age, the rule says evict only if a readable store has confirmed" ∷ []) ∷
+    reports "at_least(2, older_than(30d), vault)" two-stores
+    ("no 22 0" ∷ "archive only: the rule says evict with only write-only stores confirmed" ∷ "confirmed: vault" ∷ "age: 18446744073709551615 ms, the largest" ∷ []) ∷
+    reports "café || nas" two-stores ("no 3 3" ∷ "foreign byte: this byte is not ASCII" ∷ "caf? || nas" ∷ "   ^" ∷ []) ∷
+    reports "nas & vault" two-stores ("no 4 4" ∷ "half sign: this sign stands alone: write `&&` or `||`" ∷ "nas & vault" ∷ "    ^" ∷ []) ∷
+    reports "nas && 'vault" two-stores ("no 5 7" ∷ "open quote: this quote is not closed" ∷ "nas && 'vault" ∷ "       ^" ∷ []) ∷
+    reports "nas # vault" two-stores ("no 6 4" ∷ "stray character: nothing in a rule begins with this character" ∷ "nas # vault" ∷ "    ^" ∷ []) ∷
+    reports "readable(1 " two-stores ("no 8 11" ∷ "open bracket: a `)` is expected here" ∷ "readable(1 " ∷ "          ^" ∷ []) ∷
+    reports "nas && attic" two-stores ("no 20 1" ∷ "unknown store: the rule names a store that is not in the table" ∷ "attic" ∷ []) ∷
+    reports "nas || older_than(1d)" two-stores
+    ("no 21 0" ∷ "unconfirmed: the rule says evict with nothing confirmed" ∷ "confirmed: nothing" ∷ "age: 18446744073709551615 ms, the largest" ∷ []) ∷
+    reports "nas" ("nas:read-write" ∷ "nas:read-only" ∷ []) ("no 18 1" ∷ "twin name: two stores have this name" ∷ "argument 2" ∷ []) ∷
+    reports "nas" [] ("pass" ∷ "the rule reads; no stores are given to check it against" ∷ []) ∷
+    reports "nas" ("nas" ∷ []) ("argument 1: no colon; a store is given as name:mode" ∷ []) ∷
+    reports "nas" ("a:b:write-only" ∷ "nas:rw" ∷ []) ("argument 2: no such mode; it is read-write, read-only or write-only" ∷ []) ∷
     []
 
 -- by computation, over all rows at once
 rows-computed : map answerOf rows ≡ map expected rows
-unfolding answerOf expected run runEnd part lower equalBy classOf ofClass other doubled quotedTo quotedAt bareTo bareAt tokenOf startAt tokenAt nextOf tokensBy tokensFrom scanOf countOf durationOf ascii placeOf size after firstPlace dueIn olderThanHead readableHead atLeastHead functionOf bareLeaf headIn leftRules chain orIn parseOf readOf leAt allAscii has sum allAtMost wellMade entriesIn isReadable namesOf readyCount twinOf evict unknownIn checkRule judgeOf durationText textOf
+unfolding answerOf expected run runEnd part lower equalBy classOf ofClass other doubled quotedTo quotedAt bareTo bareAt tokenOf startAt tokenAt nextOf tokensBy tokensFrom scanOf countOf durationOf ascii placeOf size after firstPlace dueIn olderThanHead readableHead atLeastHead functionOf bareLeaf headIn leftRules chain orIn parseOf readOf leAt allAscii has sum allAtMost wellMade entriesIn isReadable namesOf readyCount twinOf evict unknownIn checkRule judgeOf durationText textOf ended behindLast rowOf digitsOf encode meaning nodeAt cellAt shownAll markedLine tableOf split storesIn confirmedLines detail judgedText reportOf
 rows-computed = refl
 
 -- each row holds

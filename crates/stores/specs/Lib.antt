@@ -14,5 +14,7 @@ pub mod EntryLaws
 pub mod AllNamesLaws
 pub mod LookupLaws
 pub mod MarkLaws
+pub mod TableBytes
+pub mod TableBytesLaws
 pub mod ListBytes
 pub mod ListBytesLaws

@@ -8,7 +8,8 @@ use types.Run.{OneOf, miss}
 use denote.Enum.Declared.{tagOf}
 use Rattle.classes.specs.Class.{openBracket, closeBracket, comma, ampersand}
 use Rattle.words.proofs.Token.{the-type}
-use Rattle.words.specs.Token.{lastOf, behind}
+use Rattle.words.specs.Token.{lastOf}
+use Rattle.words.specs.Bounds.{behind}
 use Rattle.words.specs.declared.Token.{Token}
 use Rattle.words.specs.declared.Token.the-variants.{End, Open, Close, Comma, And, Or, Word, Fault}
 use Rattle.words.specs.declared.Next.the-variants.{Off}

@@ -8,7 +8,8 @@ use native.Mathlib.Omega.{arith}
 use borrow.Author.Tests.{lt-leb}
 use lib.Dec.{eqb}
 use lib.ListN.{length}
-use Rattle.ascii.specs.Text.{run, runEnd, largest}
+use Rattle.ascii.specs.Text.{run, runEnd}
+use Rattle.ascii.specs.Search.{largest}
 use Rattle.classes.specs.Class.{isBlank, isQuote, isWord, classOf, foreign}
 use Rattle.words.specs.Token.{ascii}
 use Rattle.words.specs.TokenLaws.{by-cond}

@@ -1,4 +1,5 @@
 pub mod Token
+pub mod Bounds
 pub mod TokenLaws
 pub mod SignLaws
 pub mod ForeignLaws

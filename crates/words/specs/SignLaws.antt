@@ -17,7 +17,8 @@ use Rattle.refusals.specs.Refusals.{refusal, halfSign}
 use Rattle.words.specs.declared.Token.{Token}
 use Rattle.words.specs.declared.Token.the-variants.{Fault}
 use Rattle.words.specs.declared.Next.the-variants.{Off, To}
-use Rattle.words.specs.Token.{other, doubled, quotedTo, quotedAt, bareTo, bareAt, tokenOf, tokenAt, behind}
+use Rattle.words.specs.Token.{other, doubled, quotedTo, quotedAt, bareTo, bareAt, tokenOf, tokenAt}
+use Rattle.words.specs.Bounds.{behind}
 use Rattle.words.specs.TokenLaws.{by-cond, at-end, at-token}
 
 -- the token is not the one asked for

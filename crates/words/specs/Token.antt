@@ -1,7 +1,6 @@
 -- The token at a position of a text, and the tokens from there on, as document 01's 'Bytes and words' has them.
 -- Assumes nothing.
-use Prim.Native.Nat.{ℕ, zero, suc, _+_, _-_, _≤_, _<_}
-use mathlib.Core.Path.{_≡_}
+use Prim.Native.Nat.{ℕ, zero, suc, _+_, _-_}
 use mathlib.Core.Bool.{Bool, true, false, not, cond, _&&_}
 use mathlib.Core.List.{List, [], _∷_}
 use lib.Dec.{ltb, eqb}
@@ -92,17 +91,6 @@ placeOf (Or p n) = p
 placeOf (Word p a b q n) = p
 placeOf (Fault f) = f .place
 
--- where the text goes on after a token, if it begins with a byte of this class and is no word: a bracket, a comma or a sign
-unfoldable pub behind : ℕ → Token → Next
-behind k (End p) = Off
-behind k (Open p n) = cond (eqb k openBracket) (To n) Off
-behind k (Close p n) = cond (eqb k closeBracket) (To n) Off
-behind k (Comma p n) = cond (eqb k comma) (To n) Off
-behind k (And p n) = cond (eqb k ampersand) (To n) Off
-behind k (Or p n) = cond (eqb k bar) (To n) Off
-behind k (Word p a b q n) = Off
-behind k (Fault f) = Off
-
 -- a token, and those that `more` gives from where the text goes on
 abbrev pub onward : Token → Next → (ℕ → List Token) → List Token
 onward t Off more = t ∷ []
@@ -135,14 +123,3 @@ lastOf t = unless t Clean
 unfoldable pub scanOf : List Token → Scanned
 scanOf [] = Clean
 scanOf (t ∷ ts) = unless t (scanOf ts)
-
--- what the numbers of a token at or after `at`, in a text of `len` bytes, keep to; a fault is one of 4 to 6
-abbrev pub Lexed : ℕ → ℕ → Token → Type 0
-Lexed len at (End p) = p ≡ len
-Lexed len at (Open p n) = (at ≤ p) × (n ≡ p + 1) × (n ≤ len)
-Lexed len at (Close p n) = (at ≤ p) × (n ≡ p + 1) × (n ≤ len)
-Lexed len at (Comma p n) = (at ≤ p) × (n ≡ p + 1) × (n ≤ len)
-Lexed len at (And p n) = (at ≤ p) × (p < n) × (n ≤ len)
-Lexed len at (Or p n) = (at ≤ p) × (p < n) × (n ≤ len)
-Lexed len at (Word p a b q n) = (at ≤ p) × (p ≤ a) × (a ≤ b) × (b ≤ n) × (p < n) × (n ≤ len)
-Lexed len at (Fault f) = (at ≤ f .place) × (f .place < len) × (4 ≤ f .number) × (f .number ≤ 6)

@@ -20,25 +20,8 @@ use Rattle.words.specs.declared.Token.the-variants.{End, Open, Close, Co
 use Rattle.words.specs.declared.Next.{Next}
 use Rattle.words.specs.declared.Next.the-variants.{Off, To}
 use Rattle.words.specs.declared.Scanned.{Scanned}
-use Rattle.words.specs.Token.{
-  other,
-  doubled,
-  quotedTo,
-  quotedAt,
-  bareTo,
-  bareAt,
-  tokenOf,
-  startAt,
-  tokenAt,
-  nextOf,
-  onward,
-  tokensBy,
-  tokensFrom,
-  unless,
-  lastOf,
-  scanOf,
-  Lexed,
-}
+use Rattle.words.specs.Token.{other, doubled, quotedTo, quotedAt, bareTo, bareAt, tokenOf, startAt, tokenAt, nextOf, onward, tokensBy, tokensFrom, unless, lastOf, scanOf}
+use Rattle.words.specs.Bounds.{Lexed}
 
 -- ---- the token at a position, where the blanks before it end at p
 module _ (s : List ℕ) (at : ℕ) {p : ℕ} (e : p ≡ runEnd (ofClass blank) s at) where

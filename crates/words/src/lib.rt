@@ -7,7 +7,8 @@ ghost use lib.ListN.{length};
 ghost use Rattle.ascii.specs.Text.{part, runEnd};
 ghost use Rattle.classes.specs.Class.{faults, openBracket, comma, ampersand, bar};
 ghost use Rattle.refusals.specs.Refusals.{refusal, halfSign};
-ghost use Rattle.words.specs.Token.{ascii, other, doubled, quotedAt, bareAt, tokenAt, nextOf, placeOf, behind, tokensFrom, lastOf, scanOf};
+ghost use Rattle.words.specs.Token.{ascii, other, doubled, quotedAt, bareAt, tokenAt, nextOf, placeOf, tokensFrom, lastOf, scanOf};
+ghost use Rattle.words.specs.Bounds.{behind};
 use ascii::eq_ignore_ascii_case;
 use ascii::largest_from;
 use classes::class_at;
@@ -89,7 +90,7 @@ pub fn foreign_at(text: &[u8], class: &[u8; 256]) -> usize
 }
 
 // Where the next mark of this sort stands, from a position on, or the text's length.
-fn mark_at(text: &[u8], at: usize, mark: u8) -> usize
+pub fn mark_at(text: &[u8], at: usize, mark: u8) -> usize
     ensures { λ r. ⌜ r ≡ runEnd (other mark) (now (text .entry)) at ⌝ }
 {
     let mut i = at;

@@ -1,9 +1,6 @@
 // The word reader: a text and a position in it, kept together. Each function is thin: the work is done by those of
 // `words`, whose parameters are plain.
 ghost use mathlib.Core.Path.{_≡_};
-ghost use Prim.Native.Nat.{_≤_};
-ghost use lib.ListN.{length};
-ghost use Rattle.ascii.specs.Text.{part};
 ghost use Rattle.classes.specs.Class.{faults};
 ghost use Rattle.words.specs.Token.{tokenAt};
 use crate::Token;
@@ -37,14 +34,6 @@ impl<'a> WordReader<'a> {
         ensures { λ r. ⌜ r ≡ tokenAt (now (self .entry .text)) (self .entry .pos) ⌝ }
     {
         crate::token_at(self.text, self.pos, class)
-    }
-
-    // A word, handed back as that part of the text.
-    pub fn word(self, start: usize, end: usize) -> &'a [u8]
-        requires { ⌜ (start ≤ end) × (end ≤ length (now (self .text))) ⌝ }
-        ensures { λ r. ⌜ now r ≡ part (now (self .entry .text)) start end ⌝ }
-    {
-        crate::word_of(self.text, start, end)
     }
 }
 

@@ -4,8 +4,8 @@ use mathlib.Core.Logic.{⊎-elim}
 use Prim.Native.Nat.{_-_, max}
 use native.Mathlib.Omega.{arith}
 use lib.ListN.{length, drop}
-use Rattle.ascii.specs.Text.{largest}
-use Rattle.ascii.specs.LargestLaws.{largest-out, largest-on}
+use Rattle.ascii.specs.Search.{largest}
+use Rattle.ascii.specs.SearchLaws.{largest-out, largest-on}
 use Rattle.ascii.proofs.largest_from.Statement.{statement}
 use Rattle.ascii.proofs.largest_from.Tie as tie
 

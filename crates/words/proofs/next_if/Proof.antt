@@ -2,7 +2,7 @@
 use mathlib.Core.Path.{sym, ap, _∙_}
 use borrow.Author.Needs.{needs}
 use borrow.Author.Tests.{eq-eqb, ne-eqb}
-use Rattle.words.specs.Token.{behind}
+use Rattle.words.specs.Bounds.{behind}
 use Rattle.words.proofs.Tags.{not-sign}
 use Rattle.words.proofs.next_if.Statement.{statement}
 use Rattle.words.proofs.next_if.Tie as tie

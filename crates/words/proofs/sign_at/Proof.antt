@@ -5,7 +5,8 @@ use Prim.Native.Nat.{_+_}
 use native.Mathlib.Omega.{arith}
 use borrow.Author.Needs.{needs}
 use Rattle.words.specs.declared.Next.the-variants.{Off, To}
-use Rattle.words.specs.Token.{tokenAt, behind}
+use Rattle.words.specs.Token.{tokenAt}
+use Rattle.words.specs.Bounds.{behind}
 use Rattle.words.specs.SignLaws.{behind-end, behind-sign, behind-word, behind-none}
 use Rattle.words.proofs.sign_at.Statement.{statement}
 use Rattle.words.proofs.sign_at.Tie as tie

@@ -1,0 +1,68 @@
+-- `lines::append_blanks` meets its contract: after i turns the first i blanks are written. Assumes nothing.
+use mathlib.Core.Path.{_≡_, refl}
+use Prim.Native.Nat.{ℕ, _-_, _≤_}
+use native.Mathlib.Omega.{arith}
+use borrow.Author.Needs.{needs}
+use lib.ListN.{length, take, replicate, length-replicate, getD-replicate}
+use lib.Seq.{take-all}
+use Rattle.ascii.specs.Written.{written}
+use Rattle.ascii.specs.WrittenLaws.{written-none, copied-on}
+use Rattle.lines.proofs.append_blanks.Statement.{statement}
+use Rattle.lines.proofs.append_blanks.Tie as tie
+
+abbrev Inv-loop : tie.InvT-loop
+Inv-loop text₀ at n i₀ text i = (i ≤ n) × (length text ≡ length text₀) × (text ≡ written text₀ at (take i (replicate n 32)))
+
+abbrev μ-loop : tie.MeasureT-loop
+μ-loop text₀ at n i₀ text i = n - i
+
+loop-holds : tie.Need-loop-holds Inv-loop μ-loop
+loop-holds c = (omega arith, refl, written-none _ _)
+
+add-text : tie.Need-add-text Inv-loop μ-loop
+add-text c = omega arith
+
+slice-write-text : tie.Need-slice-write-text Inv-loop μ-loop
+slice-write-text c = omega arith
+
+add-i : tie.Need-add-i Inv-loop μ-loop
+add-i c = omega arith
+
+loop-less : tie.Need-loop-less Inv-loop μ-loop
+loop-less c = omega arith
+
+loop-again : tie.Need-loop-again Inv-loop μ-loop
+loop-again c =
+    let l = c .before .loop in
+    let n = c .before .before .args .n in
+    let k = length-replicate {A = ℕ} n 32 in
+    (omega arith, search needs, rw (getD-replicate {A = ℕ} n (l .i) 32 0 (omega arith)) at (copied-on _ _ (omega arith) (replicate n 32) (l .i) (omega arith) (l .inv .2) (omega arith)))
+
+add-result : tie.Need-add-result Inv-loop μ-loop
+add-result c = omega arith
+
+same-length : tie.Need-same-length Inv-loop μ-loop
+same-length c = search needs
+
+returns : tie.Need-returns Inv-loop μ-loop
+returns c =
+    let l = c .before .loop in
+    let n = c .before .before .args .n in
+    let k = length-replicate {A = ℕ} n 32 in
+    record { ends = omega arith; text = rw (take-all {A = ℕ} (l .i) (replicate n 32) (omega arith)) at (l .inv .2) }
+
+pub append-blanks-spec : {M : Type 1} → statement M
+append-blanks-spec =
+    tie.close
+    (tie.spec
+    Inv-loop
+    μ-loop
+    loop-holds
+    add-text
+    slice-write-text
+    add-i
+    loop-less
+    loop-again
+    add-result
+    same-length
+    returns)

@@ -1,0 +1,61 @@
+-- `lines::append_numbers` meets its contract: five parts in a row. Assumes nothing.
+use mathlib.Core.List.{append-assoc}
+use Prim.Native.Nat.{_≤_}
+use native.Mathlib.Omega.{arith}
+use borrow.Author.Needs.{needs}
+use lib.ListN.{length}
+use Rattle.ascii.specs.WrittenLaws.{put-behind}
+use Rattle.numbers.specs.DigitsLaws.{digits-short}
+use Rattle.lines.proofs.append_numbers.Statement.{statement}
+use Rattle.lines.proofs.append_numbers.Tie as tie
+
+append-requires : tie.Need-append-requires
+append-requires c κs = search needs
+
+append-digits-requires : tie.Need-append-digits-requires
+append-digits-requires c κs = search needs
+
+slice-aggregate-append : tie.Need-slice-aggregate-append
+slice-aggregate-append c = search needs
+
+append-requires-2 : tie.Need-append-requires-2
+append-requires-2 c κs = omega (arith, digits-short (c .before .before .before .before .before .before .before .before .before .before .before .before .args .a))
+
+append-digits-requires-2 : tie.Need-append-digits-requires-2
+append-digits-requires-2 c κs = omega (arith, digits-short (c .before .before .before .before .before .before .before .before .before .before .before .before .before .before .before .before .args .a))
+
+slice-aggregate-append-2 : tie.Need-slice-aggregate-append-2
+slice-aggregate-append-2 c = search needs
+
+append-requires-3 : tie.Need-append-requires-3
+append-requires-3 c κs =
+    let a = c .before .before .before .before .before .before .before .before .before .before .before .before .before .before .before .before .before .before .before .before .before .args in
+    omega (arith, digits-short (a .a), digits-short (a .b))
+
+same-length : tie.Need-same-length
+same-length c = search needs
+
+returns : tie.Need-returns
+returns c =
+    let e₅ = c .before .before in
+    let e₄ = e₅ .before .before .before .before .before in
+    let e₃ = e₄ .before .before .before .before in
+    let e₂ = e₃ .before .before .before .before .before in
+    let e₁ = e₂ .before .before .before .before in
+    let a = e₁ .before .before .before .before .args in
+    let h : a .at ≤ length (a .text .now) = omega arith in
+    simp append-assoc at (put-behind h (put-behind h (put-behind h (put-behind h (e₁ .append .ensures) (e₂ .append-digits .ensures)) (e₃ .append2 .ensures)) (e₄ .append-digits2 .ensures)) (e₅ .append3 .ensures))
+
+pub append-numbers-spec : {M : Type 1} → statement M
+append-numbers-spec =
+    tie.close
+    (tie.spec
+    append-requires
+    append-digits-requires
+    slice-aggregate-append
+    append-requires-2
+    append-digits-requires-2
+    slice-aggregate-append-2
+    append-requires-3
+    same-length
+    returns)

@@ -1,0 +1,27 @@
+-- `lines::append_trimmed` meets its contract: the piece is put up to where its text ends. Assumes nothing.
+use mathlib.Core.Path.{sym}
+use native.Mathlib.Omega.{arith}
+use borrow.Author.Needs.{needs}
+use Rattle.lines.specs.LinesLaws.{trimmed-length}
+use Rattle.lines.proofs.append_trimmed.Statement.{statement}
+use Rattle.lines.proofs.append_trimmed.Tie as tie
+
+behind-last-requires : tie.Need-behind-last-requires
+behind-last-requires c κs = search needs
+
+slice-aggregate-append : tie.Need-slice-aggregate-append
+slice-aggregate-append c = rw (c .before .before .behind-last .ensures) (sym (trimmed-length _ .0))
+
+append-requires : tie.Need-append-requires
+append-requires c κs = rw (c .before .before .behind-last .ensures) (omega (arith, trimmed-length (c .before .before .before .before .before .args .piece .now)))
+
+same-length : tie.Need-same-length
+same-length c = search needs
+
+returns : tie.Need-returns
+returns c = rw (← c .before .before .before .before .before .behind-last .ensures) (c .before .before .append .ensures)
+
+pub append-trimmed-spec : {M : Type 1} → statement M
+append-trimmed-spec =
+    tie.close
+    (tie.spec behind-last-requires slice-aggregate-append append-requires same-length returns)

@@ -1,0 +1,63 @@
+-- `page::append_argument` meets its contract: five parts in a row. Assumes nothing.
+use mathlib.Core.List.{append-assoc}
+use Prim.Native.Nat.{_≤_}
+use native.Mathlib.Omega.{arith}
+use lib.ListN.{length}
+use Rattle.ascii.specs.WrittenLaws.{put-behind}
+use Rattle.numbers.specs.DigitsLaws.{digits-short}
+use Rattle.page.specs.PageLaws.{fault-short}
+use borrow.Author.Needs.{needs}
+use Rattle.page.proofs.append_argument.Statement.{statement}
+use Rattle.page.proofs.append_argument.Tie as tie
+
+slice-aggregate-append : tie.Need-slice-aggregate-append
+slice-aggregate-append c = search needs
+
+append-requires : tie.Need-append-requires
+append-requires c κs = search needs
+
+append-digits-requires : tie.Need-append-digits-requires
+append-digits-requires c κs = search needs
+
+slice-aggregate-append-2 : tie.Need-slice-aggregate-append-2
+slice-aggregate-append-2 c = search needs
+
+append-requires-2 : tie.Need-append-requires-2
+append-requires-2 c κs = omega (arith, digits-short (c .before .before .before .before .before .before .before .before .before .before .before .before .args .index))
+
+append-fault-requires : tie.Need-append-fault-requires
+append-fault-requires c κs = omega (arith, digits-short (c .before .before .before .before .before .before .before .before .before .before .before .before .before .before .before .before .args .index))
+
+slice-aggregate-append-3 : tie.Need-slice-aggregate-append-3
+slice-aggregate-append-3 c = search needs
+
+append-requires-3 : tie.Need-append-requires-3
+append-requires-3 c κs = let a = c .before .before .before .before .before .before .before .before .before .before .before .before .before .before .before .before .before .before .before .before .before .args in omega (arith, digits-short (a .index), fault-short (a .fault))
+
+same-length : tie.Need-same-length
+same-length c = search needs
+
+returns : tie.Need-returns
+returns c =
+    let e₅ = c .before .before in
+    let e₄ = e₅ .before .before .before .before .before in
+    let e₃ = e₄ .before .before .before .before in
+    let e₂ = e₃ .before .before .before .before .before in
+    let e₁ = e₂ .before .before .before .before in
+    let h : 0 ≤ length (e₁ .before .before .before .before .args .page .now) = omega arith in
+    simp append-assoc at (put-behind h (put-behind h (put-behind h (put-behind h (e₁ .append .ensures) (e₂ .append-digits .ensures)) (e₃ .append2 .ensures)) (e₄ .append-fault .ensures)) (e₅ .append3 .ensures))
+
+pub append-argument-spec : {M : Type 1} → statement M
+append-argument-spec =
+    tie.close
+    (tie.spec
+    slice-aggregate-append
+    append-requires
+    append-digits-requires
+    slice-aggregate-append-2
+    append-requires-2
+    append-fault-requires
+    slice-aggregate-append-3
+    append-requires-3
+    same-length
+    returns)

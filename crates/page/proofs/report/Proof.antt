@@ -1,0 +1,119 @@
+-- `page::report` meets its contract: the page is short, there are too many arguments, one is wrong, or the text is judged for the stores that
+-- they give. Assumes nothing.
+use mathlib.Core.Path.{sym, _∙_}
+use native.Mathlib.Omega.{arith}
+use lib.Seq.{length-take-le}
+use Rattle.ascii.specs.WrittenLaws.{put-none}
+use Rattle.report.specs.DueLaws.{judged-due}
+use Rattle.page.specs.PageLaws.{Given, given, page-short, page-many, page-wrong, page-judged}
+use borrow.Author.Needs.{needs}
+use Rattle.page.proofs.report.Statement.{statement}
+use Rattle.page.proofs.report.Tie as tie
+
+returns : tie.Need-returns
+returns c = rw (← page-short _ _ _ (c .if1 .taken)) (put-none _ 0)
+
+count-args-requires : tie.Need-count-args-requires
+count-args-requires c κs = search needs
+
+slice-aggregate-append : tie.Need-slice-aggregate-append
+slice-aggregate-append c = search needs
+
+append-requires : tie.Need-append-requires
+append-requires c κs = search needs
+
+same-length : tie.Need-same-length
+same-length c = search needs
+
+returns-2 : tie.Need-returns-2
+returns-2 c =
+    let a = c .before .before in
+    let n = a .before .before .before .before in
+    let s = n .before .before .before .before .before .args in
+    rw (← page-many (s .text .now) (s .args .now) (s .page .now) (omega (arith, n .before .if1 .left)) (omega (arith, n .count-args .ensures, a .before .before .before .if2 .taken))) (a .append .ensures)
+
+slice-aggregate-table-of : tie.Need-slice-aggregate-table-of
+slice-aggregate-table-of c = search needs
+
+table-of-requires : tie.Need-table-of-requires
+table-of-requires c κs = search needs
+
+enum-known-size : tie.Need-enum-known-size
+enum-known-size c = search needs
+
+-- the table that the arguments make
+the-table : (c : tie.After-known-told) → Given (c .before .before .before .before .before .before .before .before .before .before .before .before .args .args .now) (c .before .before .before .before .table-of .last .1 .0) (c .before .size .given .0 .0)
+the-table c =
+    let t = c .before .before .before .before in
+    given (omega (arith, t .before .before .before .count-args .ensures, t .before .before .if2 .left)) (t .table-of .ensures) (c .before .size .given .1)
+
+array-share-prefix-table : tie.Need-array-share-prefix-table
+array-share-prefix-table c = the-table c .within
+
+slice-aggregate-stores : tie.Need-slice-aggregate-stores
+slice-aggregate-stores c = sym (length-take-le _ _ (the-table (c .before) .within))
+
+judge-requires : tie.Need-judge-requires
+judge-requires c κs = search needs
+
+append-judged-requires : tie.Need-append-judged-requires
+append-judged-requires c κs =
+    let g = the-table (c .before .before .before) in
+    record { laid = g .laid; small = g .small; room = omega (arith, c .before .before .before .before .before .before .before .before .before .before .before .if1 .left); due = λ f e. judged-due _ _ f (sym (c .judge .ensures .0) ∙ e) }
+
+enum-known-index : tie.Need-enum-known-index
+enum-known-index c = search needs
+
+append-argument-requires : tie.Need-append-argument-requires
+append-argument-requires c κs = search needs
+
+same-length-2 : tie.Need-same-length-2
+same-length-2 c = search needs
+
+returns-3 : tie.Need-returns-3
+returns-3 c =
+    let j = c .before .before .before in
+    let k = j .before .before .before in
+    let n = k .before .before .before .before .before .before .before in
+    let s = n .before .before .before .before .before .args in
+    rw
+    (← page-judged (s .text .now) (s .args .now) (s .page .now) (omega (arith, n .before .if1 .left)) (omega (arith, n .count-args .ensures, k .before .before .before .before .before .before .if2 .left)) (the-table k) (j .judge .ensures .0))
+    (c .before .before .append-judged .ensures)
+
+same-length-3 : tie.Need-same-length-3
+same-length-3 c = search needs
+
+returns-4 : tie.Need-returns-4
+returns-4 c =
+    let a = c .before .before in
+    let i = a .before .before .before in
+    let t = i .before .before .before in
+    let n = t .before .before .before in
+    let s = n .before .before .before .before .before .args in
+    rw
+    (← page-wrong (s .text .now) (s .args .now) (s .page .now) (omega (arith, n .before .if1 .left)) (omega (arith, n .count-args .ensures, t .before .before .if2 .left)) (t .table-of .ensures .bad _ _ (i .index .given .1)))
+    (a .append-argument .ensures)
+
+pub report-spec : {M : Type 1} → statement M
+report-spec =
+    tie.close
+    (tie.spec
+    returns
+    count-args-requires
+    slice-aggregate-append
+    append-requires
+    same-length
+    returns-2
+    slice-aggregate-table-of
+    table-of-requires
+    enum-known-size
+    array-share-prefix-table
+    slice-aggregate-stores
+    judge-requires
+    append-judged-requires
+    enum-known-index
+    append-argument-requires
+    same-length-2
+    returns-3
+    same-length-3
+    returns-4)

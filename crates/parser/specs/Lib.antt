@@ -1,0 +1,4 @@
+pub mod Parses
+pub mod ArrayLaws
+pub mod ChainLaws
+pub mod ParseLaws

@@ -1,0 +1,72 @@
+-- `report::append_judged` meets its contract: the verdict's line, and behind it what that verdict means. Assumes nothing.
+use native.Mathlib.Omega.{arith}
+use borrow.Author.Needs.{needs}
+use Rattle.ascii.specs.WrittenLaws.{put-behind}
+use Rattle.report.specs.ShortLaws.{verdict-short, meaning-short}
+use Rattle.report.proofs.append_judged.Statement.{statement}
+use Rattle.report.proofs.append_judged.Tie as tie
+
+append-verdict-requires : tie.Need-append-verdict-requires
+append-verdict-requires c κs = search needs
+
+enum-told : tie.Need-enum-told
+enum-told c = search needs
+
+append-pass-requires : tie.Need-append-pass-requires
+append-pass-requires c κs =
+    let s = c .before .before .before .before .before .before .before .before .before .before in
+    (s .pre .laid, omega (arith, verdict-short (s .args .v)))
+
+enum-known-v : tie.Need-enum-known-v
+enum-known-v c = search needs
+
+append-meaning-requires : tie.Need-append-meaning-requires
+append-meaning-requires c κs = omega (arith, verdict-short (c .before .before .before .before .before .before .before .before .before .before .before .args .v))
+
+append-detail-requires : tie.Need-append-detail-requires
+append-detail-requires c κs =
+    let g = c .before .before .before .before .before .before .v .given in
+    let s = c .before .before .before .before .before .before .before .before .before .before .before .before .before .before .before in
+    record {
+      laid = s .pre .laid;
+      small = s .pre .small;
+      room = omega (arith, verdict-short (s .args .v), meaning-short (g .0 .0 .number));
+      due = s .pre .due _ (g .1);
+    }
+
+same-length : tie.Need-same-length
+same-length c = search needs
+
+returns : tie.Need-returns
+returns c =
+    let e₂ = c .before .before in
+    let t = e₂ .before .before in
+    let e₁ = t .before .before .before .before in
+    rw (t .enum-told .given .1) (put-behind (omega arith) (rw (t .enum-told .given .1) at (e₁ .append-verdict .ensures)) (e₂ .append-pass .ensures))
+
+same-length-2 : tie.Need-same-length-2
+same-length-2 c = search needs
+
+returns-2 : tie.Need-returns-2
+returns-2 c =
+    let e₃ = c .before .before in
+    let e₂ = e₃ .before .before .before .before in
+    let t = e₂ .before .before .before in
+    let e₁ = t .before .before .before .before in
+    let s = e₁ .before .before .before .before .before in
+    rw (t .v .given .1) (put-behind (omega arith) (rw (t .v .given .1) at (e₁ .append-verdict .ensures)) (put-behind (omega (arith, verdict-short (s .args .v))) (e₂ .append-meaning .ensures) (e₃ .append-detail .ensures)))
+
+pub append-judged-spec : {M : Type 1} → statement M
+append-judged-spec =
+    tie.close
+    (tie.spec
+    append-verdict-requires
+    enum-told
+    append-pass-requires
+    enum-known-v
+    append-meaning-requires
+    append-detail-requires
+    same-length
+    returns
+    same-length-2
+    returns-2)

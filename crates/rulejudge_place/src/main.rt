@@ -1,0 +1,4 @@
+// The program `rulejudge`, run on a rule with a bracket that is not closed.
+fn main() {
+    console::rulejudge();
+}
