@@ -1,12 +1,21 @@
 #!/usr/bin/env python3
-"""Looks up every name that docs/MAP.md cites, and says which are missing.
+"""Looks up every name that docs/MAP.md cites, and every sentence of document 01 in docs/MAP.md, and says what is missing.
 
-usage: python3 tools/map.py
+usage: python3 tools/map.py [DOCUMENT]     (document 01; else $DOCUMENT_01, else ../shared/01-scope.md beside the repository)
 
 A name stands in backticks. One with a slash is a file or a folder, below crates/ or the root, or a must-fail edit; one with
 `::` is a function of a crate; any other is a definition, law, field, function, constant, type, edit or crate. What a row quotes
-from document 01 is no name. Prints each missing name with its line, then `N names, M missing`; the exit status is 1 if M is not 0.
+from document 01 is no name. Prints each missing name with its line, then `N names, M missing`.
+
+A sentence ends at a full stop before a blank, or with its line; a row of a table is one sentence; headings and code are none.
+A row of docs/MAP.md quotes between straight double quotes in its first cell, and `..` stands for what it leaves out. A quote
+counts for a sentence only if all its pieces stand there, in their order. A sentence has its row if each of its letters and
+digits is in such a piece, of one row or of several; a piece of fewer than 8 characters counts only if it is the whole sentence.
+Prints each sentence that has none with its line, then `N sentences, M without a row`.
+
+The exit status is 1 if a name is missing or a sentence has no row. Where document 01 can't be read, the names alone decide.
 """
+import os
 import pathlib
 import re
 import sys
@@ -17,8 +26,10 @@ WORD = r'[^\s(){}\[\];,.:=]+'
 # How antt, Rattle and Rust declare a name.
 ANTT = re.compile(rf'^\s*(?:(?:abbrev|unfoldable|pub|data|record|mutual|module)\s+)*({WORD})(?=[\s({{:])', re.M)
 # Words in backticks that are the language's or a command's, or stand for any name.
-PLAIN = {'requires', 'ensures', 'Laws', 'stdout', 'f', 'rt staticlib prune'}
+PLAIN = {'requires', 'ensures', 'Laws', 'stdout', 'f', '..', 'rt staticlib prune'}
 CODE = re.compile(r'\b(?:fn|const|struct|enum|mod|trait|static)\s+(\w+)')
+# What is no sentence of document 01: code, headings, the head of a table.
+SKIPPED = re.compile(r'^```[\s\S]*?^```|^#.*|^\|.*\n\|-.*', re.M)
 
 
 def declared():
@@ -61,27 +72,99 @@ def found(name, names):
     return name in names or name.split(':')[0] in names
 
 
+def cells(line):
+    """The cells of a row of a table."""
+    return re.split(r'(?<!\\)\|', line)[1:-1]
+
+
 def cited(line):
     """The names that a line of the page cites: of a row of a table with a sentence, those behind the sentence."""
     if line.startswith('|'):
-        cells = re.split(r'(?<!\\)\|', line)[1:-1]
-        if not cells[0].strip().startswith('`'):
-            cells = cells[1:]
-        line = ' '.join(cells)
+        row = cells(line)
+        line = ' '.join(row if row[0].strip().startswith('`') else row[1:])
     return re.findall(r'`([^`]+)`', line)
 
 
-def main():
+def missing_names(page):
+    """Prints the names that are missing, and says how many."""
     names = declared()
-    total, missing = 0, 0
-    lines = (ROOT / 'docs' / 'MAP.md').read_text().splitlines()
-    for number, line in enumerate(lines, 1):
-        for name in cited(line):
-            total += 1
-            if not found(name, names):
-                missing += 1
-                print(f'docs/MAP.md:{number}: {name}')
-    print(f'{total} names, {missing} missing')
+    places = [(number, name) for number, line in enumerate(page, 1) for name in cited(line)]
+    missing = [f'docs/MAP.md:{number}: {name}' for number, name in places if not found(name, names)]
+    print(*missing, f'{len(places)} names, {len(missing)} missing', sep='\n')
+    return len(missing)
+
+
+def plain(text):
+    """A text with single blanks and no escapes, so that a quote and what it quotes can be compared."""
+    return ' '.join(text.replace(r'\|', '|').split())
+
+
+def sentences(text):
+    """The sentences of document 01, each with the number of its line."""
+    text = SKIPPED.sub(lambda skipped: '\n' * skipped[0].count('\n'), text)
+    for number, line in enumerate(text.splitlines(), 1):
+        if line.startswith('|'):
+            parts = [line.strip('| ')]
+        else:
+            parts = re.split(r'(?<=[^.\s]\.)\s+', line.removeprefix('- ').strip())
+        yield from ((number, plain(part)) for part in parts if part)
+
+
+def spans(pieces, sentence):
+    """Where the pieces of a quote stand in a sentence, one behind the other; nothing where one is missing."""
+    at, places = 0, []
+    for piece in pieces:
+        start = sentence.find(piece, at)
+        if start < 0:
+            return []
+        at = start + len(piece)
+        places.append((start, at))
+    return places
+
+
+def quotes(page, known):
+    """What the rows quote, as pieces. A quote may hold marks itself: it goes on to the last mark up to which it is one."""
+    for line in page:
+        first = plain(cells(line)[0]) if line.startswith('|') else ''
+        marks = [at for at, sign in enumerate(first) if sign == '"']
+        while marks:
+            start = marks.pop(0)
+            for end in reversed(marks):
+                pieces = [piece for piece in re.split(r'\s*\.\.\s*', first[start + 1:end]) if piece]
+                if any(spans(pieces, sentence) for _, sentence in known):
+                    yield pieces
+                    marks = [mark for mark in marks if mark > end]
+                    break
+
+
+def has_row(sentence, quoted):
+    """Whether every letter and digit of a sentence is quoted."""
+    held = set()
+    for start, end in (span for pieces in quoted for span in spans(pieces, sentence)):
+        if end - start >= 8 or end - start == len(sentence):
+            held.update(range(start, end))
+    return all(at in held for at, sign in enumerate(sentence) if sign.isalnum())
+
+
+def missing_rows(page, path):
+    """Prints the sentences of document 01 that have no row, and says how many."""
+    try:
+        text = path.read_text()
+    except OSError:
+        print('document 01 could not be read: sentences were not looked up')
+        return 0
+    places = list(sentences(text))
+    quoted = list(quotes(page, places))
+    missing = [f'{path.name}:{number}: {sentence}' for number, sentence in places if not has_row(sentence, quoted)]
+    print(*missing, f'{len(places)} sentences, {len(missing)} without a row', sep='\n')
+    return len(missing)
+
+
+def main():
+    default = os.environ.get('DOCUMENT_01', ROOT.parent / 'shared' / '01-scope.md')
+    path = pathlib.Path(sys.argv[1] if len(sys.argv) > 1 else default)
+    page = (ROOT / 'docs' / 'MAP.md').read_text().splitlines()
+    missing = missing_names(page) + missing_rows(page, path)
     sys.exit(1 if missing else 0)
 
 
