@@ -1,6 +1,7 @@
 // The input and output of the programs `ruleread` and `rulejudge`. What they print is made by `report` and `page`.
 ghost use Prim.Native.Nat.{_+_, _≤_};
 ghost use lib.ListN.{length};
+ghost use Rattle.console.specs.Input.{sizeOf};
 use libc::ENAMETOOLONG;
 use libc::STDIN_FILENO;
 use libc::STDOUT_FILENO;
@@ -15,10 +16,48 @@ const ARG_BYTES: usize = 267;
 // 65 arguments, which are enough to tell too many, each with a 0 behind it.
 const ARGS_BYTES: usize = 17_420;
 
+// What was read: how many bytes, or that a read failed.
+enum Input {
+    Bytes(usize),
+    Failed,
+}
+
+// Reads once from standard input.
+fn read_some(text: &mut [u8]) -> Input
+    ensures { λ r. ⌜ sizeOf r ≤ length (now (text .exit)) ⌝ }
+{
+    let got = libc::read(STDIN_FILENO, text);
+    if got < 0 {
+        return Input::Failed;
+    }
+    Input::Bytes(io::count(got, text))
+}
+
+// Reads from standard input until the text is full or the input ends.
+fn read_text(text: &mut [u8]) -> Input
+    ensures { λ r. ⌜ sizeOf r ≤ length (now (text .exit)) ⌝ }
+{
+    let mut done = 0;
+    while done < text.len() {
+        let some = read_some(&mut text[done..]);
+        let Input::Bytes(more) = some else {
+            return some;
+        };
+        if more == 0 {
+            return Input::Bytes(done);
+        }
+        done += more;
+    }
+    Input::Bytes(done)
+}
+
 // Reads a text from standard input, and prints a line that says what it reads as.
 pub fn ruleread() {
     let mut text = [0u8; READ_BYTES];
-    let size = io::read_full(STDIN_FILENO, &mut text);
+    let Input::Bytes(size) = read_text(&mut text) else {
+        os::fail(b"ruleread: standard input");
+        return;
+    };
     let mut line = [0u8; 64];
     let end = report::reading::reading_line(&mut line, &text[..size]);
     io::write_all(STDOUT_FILENO, &line[..end]);
@@ -59,7 +98,10 @@ fn collect(args: &mut [u8]) -> usize
 // Reads a text from standard input and stores from the arguments, and prints the verdict and what it means.
 pub fn rulejudge() {
     let mut text = [0u8; READ_BYTES];
-    let size = io::read_full(STDIN_FILENO, &mut text);
+    let Input::Bytes(size) = read_text(&mut text) else {
+        os::fail(b"rulejudge: standard input");
+        return;
+    };
     let mut args = [0u8; ARGS_BYTES];
     let end = collect(&mut args);
     let mut page = [0u8; PAGE_BYTES];

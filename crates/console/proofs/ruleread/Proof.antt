@@ -1,23 +1,43 @@
--- `console::ruleread` meets its contract: the line ends within its buffer. Assumes nothing.
+-- `console::ruleread` meets its contract: the text and the line end within their buffers. Assumes nothing.
+use mathlib.Core.Path.{sym, ap}
+use native.Mathlib.Omega.{arith}
+use lib.Seq.{length-take-le}
+use Rattle.console.specs.Input.{sizeOf}
 use Rattle.console.specs.WithinLaws.{put-within, put-counts}
+use borrow.Author.Needs.{needs}
 use borrow.Author.Needs.{needs}
 use Rattle.console.proofs.ruleread.Statement.{statement}
 use Rattle.console.proofs.ruleread.Tie as tie
 
-slice-aggregate-read-full : tie.Need-slice-aggregate-read-full
-slice-aggregate-read-full c = search needs
+slice-aggregate-read-text : tie.Need-slice-aggregate-read-text
+slice-aggregate-read-text c = search needs
 
-read-full-requires : tie.Need-read-full-requires
-read-full-requires c κs = search needs
+read-text-requires : tie.Need-read-text-requires
+read-text-requires c κs = search needs
+
+enum-known-size : tie.Need-enum-known-size
+enum-known-size c = search needs
+
+enum-told : tie.Need-enum-told
+enum-told c = search needs
+
+slice-aggregate-fail : tie.Need-slice-aggregate-fail
+slice-aggregate-fail c = search needs
+
+fail-requires : tie.Need-fail-requires
+fail-requires c κs = search needs
+
+returns : tie.Need-returns
+returns c = search needs
 
 slice-aggregate-reading-line : tie.Need-slice-aggregate-reading-line
 slice-aggregate-reading-line c = search needs
 
 array-share-prefix-text : tie.Need-array-share-prefix-text
-array-share-prefix-text c = search needs
+array-share-prefix-text c = omega (arith, c .before .before .before .before .before .read-text .ensures, ap sizeOf (c .before .before .size .given .1))
 
 slice-aggregate-reading-line-2 : tie.Need-slice-aggregate-reading-line-2
-slice-aggregate-reading-line-2 c = search needs
+slice-aggregate-reading-line-2 c = sym (length-take-le _ _ (omega (arith, c .before .before .before .before .before .before .read-text .ensures, ap sizeOf (c .before .before .before .size .given .1))))
 
 reading-line-requires : tie.Need-reading-line-requires
 reading-line-requires c κs = search needs
@@ -31,15 +51,20 @@ slice-aggregate-write-all c = put-counts (c .before .before .reading-line .ensur
 write-all-requires : tie.Need-write-all-requires
 write-all-requires c κs = search needs
 
-returns : tie.Need-returns
-returns c = search needs
+returns-2 : tie.Need-returns-2
+returns-2 c = search needs
 
 pub ruleread-spec : {M : Type 1} → statement M
 ruleread-spec =
     tie.close
     (tie.spec
-    slice-aggregate-read-full
-    read-full-requires
+    slice-aggregate-read-text
+    read-text-requires
+    enum-known-size
+    enum-told
+    slice-aggregate-fail
+    fail-requires
+    returns
     slice-aggregate-reading-line
     array-share-prefix-text
     slice-aggregate-reading-line-2
@@ -47,4 +72,4 @@ ruleread-spec =
     array-share-prefix-line
     slice-aggregate-write-all
     write-all-requires
-    returns)
+    returns-2)

@@ -1,0 +1,64 @@
+#!/usr/bin/env python3
+"""Runs what README.md quotes, and says where the output is another one.
+
+usage: python3 tools/readme.py
+
+Runs each command line `$ ./judge ..` and compares what it prints with the lines quoted below it. Writes the Rust and the C program
+into target/example, runs the commands that README gives to build and run them, and compares what each prints with the block
+behind it. Needs the Rattle kit, rustc and cc on the PATH. Prints each output that differs, then `N outputs, M different`; the
+exit status is 1 if one differs.
+"""
+import pathlib
+import re
+import shutil
+import subprocess
+import sys
+
+ROOT = pathlib.Path(__file__).resolve().parent.parent
+EXAMPLE = ROOT / 'target' / 'example'
+README = (ROOT / 'README.md').read_text()
+
+
+def run(commands, folder=ROOT):
+    """What shell commands print on standard output."""
+    return subprocess.run(['bash', '-c', commands], cwd=folder, stdout=subprocess.PIPE, stderr=subprocess.DEVNULL, text=True).stdout
+
+
+def judged():
+    """Each `$ ./judge ..` of README, and the lines quoted below it."""
+    for block in re.findall(r'(?:^    .*\n)+', README, re.M):
+        lines = [line[4:] for line in block.splitlines()]
+        if lines[0].startswith('$ ./judge '):
+            yield lines[0][2:], '\n'.join(lines[1:]) + '\n'
+
+
+def programs():
+    """The two programs: file, source, and what README says that it prints."""
+    pattern = r'`([\w.]+)`, which[^\n]*\n+```\w+\n(.*?)^```\n+prints\n+```\n(.*?)^```'
+    return re.findall(pattern, README, re.M | re.S)
+
+
+def build():
+    """The commands by which README builds and runs the programs."""
+    block = re.search(r'^    rt staticlib prune\n(?:    .*\n)+', README, re.M)
+    return [line[4:] for line in block[0].splitlines()]
+
+
+def main():
+    outputs = [(command, quoted, run(command)) for command, quoted in judged()]
+    EXAMPLE.mkdir(parents=True, exist_ok=True)
+    shutil.copy(ROOT / 'compare' / 'src' / 'prune.rs', EXAMPLE)
+    library, enter, *steps = build()
+    run(library)
+    for name, source, quoted in programs():
+        (EXAMPLE / name).write_text(source)
+        step = next(line for line in steps if name in line)
+        outputs.append((name, quoted, run(f'{enter}\n{step}')))
+    different = [output for output in outputs if output[1] != output[2]]
+    for command, quoted, printed in different:
+        print(f'{command}\n-- README:\n{quoted}-- printed:\n{printed}', end='')
+    print(f'{len(outputs)} outputs, {len(different)} different')
+    sys.exit(1 if different or len(outputs) < 5 else 0)
+
+
+main()
