@@ -6,7 +6,7 @@ usage: python3 tools/readme.py
 Runs each command line `$ ./judge ..` and compares what it prints with the lines quoted below it. Writes the Rust and the C program
 into target/example, runs the commands that README gives to build and run them, and compares what each prints with the block
 behind it. Needs the Rattle kit, rustc and cc on the PATH. Prints each output that differs, then `N outputs, M different`; the
-exit status is 1 if one differs.
+exit status is 1 if one differs, or if not both a command and a program were found.
 """
 import pathlib
 import re
@@ -19,9 +19,9 @@ EXAMPLE = ROOT / 'target' / 'example'
 README = (ROOT / 'README.md').read_text()
 
 
-def run(commands, folder=ROOT):
-    """What shell commands print on standard output."""
-    return subprocess.run(['bash', '-c', commands], cwd=folder, stdout=subprocess.PIPE, stderr=subprocess.DEVNULL, text=True).stdout
+def run(commands):
+    """What shell commands print on standard output, run at the root."""
+    return subprocess.run(['bash', '-c', commands], cwd=ROOT, stdout=subprocess.PIPE, stderr=subprocess.DEVNULL, text=True).stdout
 
 
 def judged():
@@ -45,20 +45,22 @@ def build():
 
 
 def main():
-    outputs = [(command, quoted, run(command)) for command, quoted in judged()]
+    judgements = [(command, quoted, run(command)) for command, quoted in judged()]
     EXAMPLE.mkdir(parents=True, exist_ok=True)
     shutil.copy(ROOT / 'compare' / 'src' / 'prune.rs', EXAMPLE)
     library, enter, *steps = build()
     run(library)
+    printed_by = []
     for name, source, quoted in programs():
         (EXAMPLE / name).write_text(source)
         step = next(line for line in steps if name in line)
-        outputs.append((name, quoted, run(f'{enter}\n{step}')))
+        printed_by.append((name, quoted, run(f'{enter}\n{step}')))
+    outputs = judgements + printed_by
     different = [output for output in outputs if output[1] != output[2]]
     for command, quoted, printed in different:
         print(f'{command}\n-- README:\n{quoted}-- printed:\n{printed}', end='')
     print(f'{len(outputs)} outputs, {len(different)} different')
-    sys.exit(1 if different or len(outputs) < 5 else 0)
+    sys.exit(0 if judgements and printed_by and not different else 1)
 
 
 main()
