@@ -5,7 +5,6 @@ use lib.Seq.{length-take-le}
 use Rattle.console.specs.Input.{sizeOf}
 use Rattle.console.specs.WithinLaws.{put-within, put-counts}
 use borrow.Author.Needs.{needs}
-use borrow.Author.Needs.{needs}
 use Rattle.console.proofs.ruleread.Statement.{statement}
 use Rattle.console.proofs.ruleread.Tie as tie
 
