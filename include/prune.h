@@ -18,7 +18,9 @@ extern "C" {
 /* A buffer of this length holds the image of every text that reads. */
 #define PRUNE_IMAGE_BYTES 26628
 
-/* Reads a rule's text into an image. Value: the image's length. Refusals: 1 to 15. */
+/* Reads a rule's text into an image. Value: the image's length. Refusals: 1 to 15.
+ * A duration is made of parts in w, d, h, m, s and ms, in this order, each at most once: 1 to 9 digits, then the unit. Blanks may
+ * stand between parts and before a unit, and the duration is then quoted: older_than(2w), older_than("1w 12 h"). */
 uint64_t prune_read(const uint8_t *text, size_t text_len, uint8_t *image, size_t image_len);
 
 /* Decides on the rule of an image, for a table of stores, an age in milliseconds and a confirmed list. Value: 1 evict, 0 keep.
@@ -32,7 +34,8 @@ uint64_t prune_check(const uint8_t *image, size_t image_len, const uint8_t *stor
 /* Judges a rule's text: reads it, then checks. Value: 0, a pass. Refusals: 2 to 15, 17, 18, 20, 21, 22. */
 uint64_t prune_judge(const uint8_t *text, size_t text_len, const uint8_t *stores, size_t stores_len);
 
-/* Prints the rule of an image. Value: the text's length. Refusals: 16, 1. */
+/* Prints the rule of an image. Value: the text's length. Refusals: 16, 1.
+ * A duration is printed in days, hours, minutes, seconds and milliseconds, without blanks: two weeks as 14d. */
 uint64_t prune_print(const uint8_t *image, size_t image_len, uint8_t *text, size_t text_len);
 
 #ifdef __cplusplus

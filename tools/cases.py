@@ -1,5 +1,5 @@
 #!/usr/bin/env python3
-"""Writes cases that the program `replay` runs, with document 01's answers.
+"""Writes cases that the program `replay` runs, with document 01's answers, as amended by the jobs of document 02 that have landed.
 
 usage: { python3 tools/cases.py; compare/make-list; } > crates/replay/stdin
 
@@ -90,11 +90,13 @@ def count(word, place):
     return value
 
 
-UNITS = [(b'd', 86400000), (b'h', 3600000), (b'm', 60000), (b's', 1000), (b'ms', 1)]
+# Job 1 adds w to what is read; "Printing still begins with days."
+PRINTED = [(b'd', 86400000), (b'h', 3600000), (b'm', 60000), (b's', 1000), (b'ms', 1)]
+UNITS = [(b'w', 604800000)] + PRINTED
 
 
 def duration(word, place):
-    """The milliseconds that a word is: parts of 1 to 9 digits and a unit, the units falling."""
+    """The milliseconds that a word is: parts of 1 to 9 digits, blanks or none (Job 1) and a unit, the units falling."""
     first, end = 0, len(word)
     while first < end and word[first] in BLANKS:
         first += 1
@@ -107,10 +109,13 @@ def duration(word, place):
         size = 0
         while size < len(rest) and rest[size] in DIGITS:
             size += 1
-        letters = size
+        start = size
+        while start < len(rest) and rest[start] in BLANKS:
+            start += 1
+        letters = start
         while letters < len(rest) and rest[letters] not in DIGITS and rest[letters] not in BLANKS:
             letters += 1
-        unit = rest[size:letters]
+        unit = rest[start:letters]
         while left and left[0][0] != unit:
             left.pop(0)
         if not 1 <= size <= 9 or not left:
@@ -423,9 +428,9 @@ def judge(text, stores):
 
 
 def printed_duration(span):
-    """The text of a duration: its nonzero parts, the units falling, each part less than one of the unit before it."""
+    """The text of a duration: its nonzero parts, the units falling from days on, each part less than one of the unit before it."""
     parts = b''
-    for unit, worth in UNITS:
+    for unit, worth in PRINTED:
         many, span = divmod(span, worth)
         if many:
             parts += b'%d%s' % (many, unit)
@@ -528,6 +533,7 @@ def sheet():
     no(b'', 7, 0)
     no(b'older_than(1h 30m)', 8, 14)
     ok(b'older_than("1h 30m")', 1, 0, root=(OLDER, 5400000))
+    ok(b'older_than("1w 1d")', 1, 0, root=(OLDER, 691200000))
     no(b'readable(x', 12, 9)
     no(b'older_than(x', 8, 12)
     no(b') a &', 4, 4)
@@ -807,15 +813,15 @@ def duration_cases():
         ok(b'older_than("' + word + b'")', 1, 0, root=(OLDER, value))
     for word in (b'0000000001d', b'1000000000d', b'0000000000s', b'1d0000000001h', b'1mms', b'1ms1s', b'30D',
                  b'1H', b'1M', b'1S', b'1MS', b'1Ms', b'1mS', b'1', b'd', b'ms', b'1d1', b'1d1d', b'1h1d',
-                 b'1s1m', b'1ms1ms', b'1m1m', b'1w', b'1y', b'1us', b'1ns', b'1min', b'1hr', b'1day', b'1days',
+                 b'1s1m', b'1ms1ms', b'1m1m', b'1y', b'1us', b'1ns', b'1min', b'1hr', b'1day', b'1days',
                  b'1.5h', b'1_0d', b'-1d', b'1-d', b'1d-', b'.1d', b'P1D', b'1sm', b'1smm', b'1mss', b'1dh',
                  b'x', b'1dx', b'1d1x', b'0', b'1s1', b'1m1s1m', b'1d.2h', b'older_than'):
         no(b'older_than(' + word + b')', 13, 11)
-    for word in (b'', b' ', b'\t\n', b'1m s', b'1 d', b'1d 2 h', b'1d,2h', b'+1d', b'1d +2h', b'1d\x1c2h', b'1d\x1d',
-                 b'\x1e1d', b'1d\x00', b'\x7f1d', b'1h 1d', b'1d 1d', b'1 ms', b'1m\ts', b'1d and 2h', b"1d'"):
+    for word in (b'', b' ', b'\t\n', b'1m s', b'1d,2h', b'+1d', b'1d +2h', b'1d\x1c2h', b'1d\x1d',
+                 b'\x1e1d', b'1d\x00', b'\x7f1d', b'1h 1d', b'1d 1d', b'1m\ts', b'1d and 2h', b"1d'"):
         no(b'older_than("' + word + b'")', 13, 11)
     no(b'older_than(  x)', 13, 13)
-    no(b'any(a, older_than("1 d"))', 13, 18)
+    no(b'any(a, older_than("1 D"))', 13, 18)
     no(b'older_than(1d,)', 8, 13)
     no(b'older_than(1d 2h)', 8, 14)
     no(b'older_than(1D 2h)', 8, 14)
@@ -823,6 +829,46 @@ def duration_cases():
     no(b'older_than(1d  ', 8, 15)
     no(b'older_than()', 11, 11)
     no(b'older_than(', 11, 11)
+
+
+def week_cases():
+    note('Weeks')
+    week, day, hour, minute = 604800000, 86400000, 3600000, 60000
+    for word, value in ((b'1w', week), (b'2w', 2 * week), (b'0w', 0), (b'52w', 52 * week), (b'1w1d', week + day),
+                        (b'1w8d', week + 8 * day), (b'7d', week), (b'1w1ms', week + 1),
+                        (b'1w2d3h4m5s6ms', week + 2 * day + 3 * hour + 4 * minute + 5006),
+                        (b'000000001w', week), (b'999999999w', 604799999395200000), (b'0w0d0h0m0s0ms', 0),
+                        (b'999999999w999999999d999999999h999999999m999999999s999999999ms', 694861000305138999)):
+        ok(b'older_than(' + word + b')', 1, 0, root=(OLDER, value))
+        ok(b"older_than('" + word + b"')", 1, 0, root=(OLDER, value))
+    for word in (b'1W', b'w', b'1ww', b'1wd', b'1dw', b'1w1w', b'1d1w', b'1ms1w', b'1w1d1w', b'1wk', b'1week', b'1weeks', b'2W1d',
+                 b'1w1', b'0000000001w', b'1000000000w', b'1w0000000001d', b'-1w', b'1.5w', b'1w-', b'w1'):
+        no(b'older_than(' + word + b')', 13, 11)
+        no(b'older_than("' + word + b'")', 13, 11)
+    note('Blanks between the digits and the unit')
+    for word, value in ((b'1w 1d', week + day), (b'2 w', 2 * week), (b'30 d', 30 * day), (b'1 ms', 1), (b'1 d', day),
+                        (b'1d 2 h', day + 2 * hour), (b'1 w 1 d', week + day), (b'1 w1 d', week + day), (b'1   h', hour),
+                        (b' \t1\t\n\x0b\x0c\r m ', minute), (b'999999999 w', 604799999395200000),
+                        (b'1 d 2 h 3 m 4 s 5 ms', day + 2 * hour + 3 * minute + 4005),
+                        (b'1\x0bw\x0c2\rd', week + 2 * day), (b'0 s', 0), (b'000000001 s', 1000), (b'1' + b' ' * 2000 + b'd', day)):
+        ok(b"older_than('" + word + b"')", 1, 0, root=(OLDER, value))
+        ok(b'older_than("' + word + b'")', 1, 0, root=(OLDER, value))
+    for word in (b'1 m s', b'1  m\ts', b'1 W', b'1 D', b'1 d 1 w', b'1 w 1 w', b'1 w1w', b'1 ', b' 1 ', b'1 d 2', b'1 2 d', b'1 2d',
+                 b'1 d2', b'd 1', b'1 d d', b'1 dd', b'0000000001 d', b'1000000000 s', b'1\x1cd', b'1\x00d', b'1_d', b'1 ,d', b'1 + d',
+                 b'1 dh', b'1 \x7fd', b'1 000 ms', b'- 1 d'):
+        no(b"older_than('" + word + b"')", 13, 11)
+        no(b'older_than("' + word + b'")', 13, 11)
+    note('A duration with a blank must be quoted')
+    no(b'older_than(30 d)', 8, 14)
+    no(b'older_than(2 w)', 8, 13)
+    no(b'older_than(1w 1d)', 8, 14)
+    no(b'older_than(1 d', 8, 13)
+    no(b'older_than("1" d)', 8, 15)
+    no(b'older_than(1 "d")', 8, 13)
+    no(b"any(a, older_than('1 m s'))", 13, 18)
+    ok(b"any(a, older_than('1 ms'))", 3, 1, root=(ANY, 0))
+    ok(b'2w', 1, 2)
+    ok(b"'30 d'", 1, 4)
 
 
 def list_cases():
@@ -1087,7 +1133,7 @@ class Draw:
 
 NAMES = [b'a', b'nas', b'vault', b'b-1', b"'x y'", b'""', b'2', b'30d', b'Readable', b'any', b"'and'", b'"OR"']
 NUMBERS = [b'0', b'1', b'2', b'007', b"'+3'", b'18446744073709551615']
-SPANS = [b'0s', b'30d', b'1h30m', b'"1h 30m"', b"' 1d\t2ms '", b'999999999d']
+SPANS = [b'0s', b'30d', b'1h30m', b'"1h 30m"', b"' 2w\t1 d 2\tms '", b'999999999w']
 SPACES = [b'', b'', b'', b' ', b' ', b'\n', b'\t ']
 CALLS = [b'any', b'all', b'oneof', b'allof', b'"All"', b'ANY']
 FAULTS = [b'&', b'|', b'#', b'"', b"'", b'\x80', b'\x00', b'+', b'\x1f', b'\xff']
@@ -1291,7 +1337,8 @@ def older_cases():
                 decision(packed([(OLDER, 1, span)]), table(), age, NOTHING, 'evict' if age >= span else 'keep')
         for age in (0, MOST):
             decision(packed([(OLDER, 1, span)]), HOME, age, confirming(b'nas'), 'evict' if age >= span else 'keep')
-    for text in (b'older_than(999999999d)', b'older_than("1h 30m")', b'older_than(1ms)', b'older_than(0s)'):
+    for text in (b'older_than(999999999d)', b'older_than("1h 30m")', b'older_than(1ms)', b'older_than(0s)', b'older_than(2w)',
+                 b'older_than("1w 1d")', b"older_than('30 d')", b'older_than(999999999w)'):
         span = number(of(text), 8, 8)
         for age in (max(span, 1) - 1, span, span + 1):
             decision(of(text), HOME, age, NOTHING, 'evict' if age >= span else 'keep')
@@ -1862,7 +1909,7 @@ def archive_cases():
         checked(packed([leaf, name_at(0, 3), (ALL, 3, 0)], b'nas'), HOME, PASS)
         checked(packed([leaf, name_at(0, 3), (ANY, 3, 0)], b'nas'), HOME, BARE)
         checked(packed([leaf, (READABLE, 1, 1), (ALL, 3, 0)]), HOME, PASS)
-    for text in (b'0s', b'1ms', b'999999999d', b'"1h 30m"'):
+    for text in (b'0s', b'1ms', b'999999999d', b'"1h 30m"', b'2w', b'"30 d"', b'999999999w'):
         judged(b'older_than(%s)' % text, HOME, BARE)
         judged(b'older_than(%s) and vault' % text, HOME, ARCHIVE)
         judged(b'older_than(%s) and nas' % text, HOME, PASS)
@@ -2330,12 +2377,15 @@ def printed_durations():
                          (b'23h60m', b'1d'), (b'23h59m60s', b'1d'), (b'23h59m59s1000ms', b'1d'), (b'23h59m59s999ms', b'23h59m59s999ms'),
                          (b'000000001d', b'1d'), (b"' 1d\t2ms '", b'1d2ms'), (b'0d0h0m0s0ms', b'0s'), (b'0ms', b'0s'), (b'0d', b'0s'),
                          (b'1d0h1m', b'1d1m'), (b'999999999d', b'999999999d'),
+                         (b'1w', b'7d'), (b'2w', b'14d'), (b"'1w 1d'", b'8d'), (b"'30 d'", b'30d'), (b"'1 w 23 h'", b'7d23h'),
+                         (b'0w', b'0s'), (b'142857142w', b'999999994d'), (b'999999999w', b'6999999993d'),
+                         (b'999999999w999999999d999999999h999999999m999999999s999999999ms', b'8042372688d17h12m18s999ms'),
                          (b'999999999d999999999h999999999m999999999s999999999ms', b'1042372695d17h12m18s999ms')):
         prints(b'older_than(%s)' % word, b'older_than(%s)' % stated, tight=True)
     note('Durations with each choice of parts')
     for parts in ((7, 6, 5, 4, 3), (999999999, 23, 59, 59, 999)):
         for mask in range(32):
-            chosen = [(many, unit, worth) for index, (many, (unit, worth)) in enumerate(zip(parts, UNITS)) if mask >> index & 1]
+            chosen = [(many, unit, worth) for index, (many, (unit, worth)) in enumerate(zip(parts, PRINTED)) if mask >> index & 1]
             stated = b''.join(b'%d%s' % (many, unit) for many, unit, _ in chosen) or b'0s'
             prints(older(sum(many * worth for many, _, worth in chosen)), b'older_than(%s)' % stated, tight=True)
     note('Days of each length')
@@ -2520,7 +2570,7 @@ def main():
     note('Made by { python3 tools/cases.py; compare/make-list; } > crates/replay/stdin')
     note('Answers of document 01, printed by tools/cases.py')
     note('read TEXT BUFFER no NUMBER PLACE, or read TEXT BUFFER ok IMAGE; the text and the image in hex')
-    for part in (sheet, orders, depths, word_cases, count_cases, duration_cases, list_cases, chain_cases,
+    for part in (sheet, orders, depths, word_cases, count_cases, duration_cases, week_cases, list_cases, chain_cases,
                  single_bytes, pairs, lengths, rooms, random_cases):
         part()
     # The deepest image has 2,048 nodes above each other.

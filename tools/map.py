@@ -1,19 +1,22 @@
 #!/usr/bin/env python3
-"""Looks up every name that docs/MAP.md cites, and every sentence of document 01 in docs/MAP.md, and says what is missing.
+"""Looks up every name that docs/MAP.md cites, and every sentence of documents 01 and 02 in docs/MAP.md, and says what is missing.
 
-usage: python3 tools/map.py [DOCUMENT]     (document 01; else $DOCUMENT_01, else ../shared/01-scope.md beside the repository)
+usage: python3 tools/map.py [DOCUMENT_01 [DOCUMENT_02]]
+
+The documents are those given, else $DOCUMENT_01 and $DOCUMENT_02, else ../shared/01-scope.md and ../shared/02-change-requests.md
+beside the repository. Of document 02 the jobs count that have a page docs/landings/job-NN.md.
 
 A name stands in backticks. One with a slash is a file or a folder, below crates/ or the root, or a must-fail edit; one with
 `::` is a function of a crate; any other is a definition, law, field, function, constant, type, edit or crate. What a row quotes
-from document 01 is no name. Prints each missing name with its line, then `N names, M missing`.
+from a document is no name. Prints each missing name with its line, then `N names, M missing`.
 
 A sentence ends at a full stop before a blank, or with its line; a row of a table is one sentence; headings and code are none.
 A row of docs/MAP.md quotes between straight double quotes in its first cell, and `..` stands for what it leaves out. A quote
 counts for a sentence only if all its pieces stand there, in their order. A sentence has its row if each of its letters and
 digits is in such a piece, of one row or of several; a piece of fewer than 8 characters counts only if it is the whole sentence.
-Prints each sentence that has none with its line, then `N sentences, M without a row`.
+Prints each sentence that has none with its line, then of each document `N sentences, M without a row`.
 
-The exit status is 1 if a name is missing or a sentence has no row. Where document 01 can't be read, the names alone decide.
+The exit status is 1 if a name is missing or a sentence has no row. Where no document can be read, the names alone decide.
 """
 import os
 import pathlib
@@ -28,8 +31,10 @@ ANTT = re.compile(rf'^\s*(?:(?:abbrev|unfoldable|pub|data|record|mutual|module)\
 # Words in backticks that are the language's or a command's, or stand for any name.
 PLAIN = {'requires', 'ensures', 'Laws', 'stdout', 'f', '..', 'rt staticlib prune'}
 CODE = re.compile(r'\b(?:fn|const|struct|enum|mod|trait|static)\s+(\w+)')
-# What is no sentence of document 01: code, headings, the head of a table.
+# What is no sentence of a document: code, headings, the head of a table.
 SKIPPED = re.compile(r'^```[\s\S]*?^```|^#.*|^\|.*\n\|-.*', re.M)
+# A job of document 02, a line of its own: its number and title, then what it asks for.
+JOB = re.compile(r'\*\*Job (\d+)\.[^*]*\*\*\s*(.*)')
 
 
 def declared():
@@ -99,8 +104,16 @@ def plain(text):
     return ' '.join(text.replace(r'\|', '|').split())
 
 
+def landed(text):
+    """Document 02 without the titles of its jobs, and without all that is not a job with a page in docs/landings."""
+    def kept(line):
+        job = JOB.match(line)
+        return job[2] if job and (ROOT / 'docs' / 'landings' / f'job-{int(job[1]):02}.md').exists() else ''
+    return '\n'.join(map(kept, text.splitlines()))
+
+
 def sentences(text):
-    """The sentences of document 01, each with the number of its line."""
+    """The sentences of a document, each with the number of its line."""
     text = SKIPPED.sub(lambda skipped: '\n' * skipped[0].count('\n'), text)
     for number, line in enumerate(text.splitlines(), 1):
         if line.startswith('|'):
@@ -146,25 +159,31 @@ def has_row(sentence, quoted):
     return all(at in held for at, sign in enumerate(sentence) if sign.isalnum())
 
 
-def missing_rows(page, path):
-    """Prints the sentences of document 01 that have no row, and says how many."""
+def missing_rows(page, path, part):
+    """Prints the sentences of that part of a document that have no row, and says how many."""
     try:
         text = path.read_text()
     except OSError:
-        print('document 01 could not be read: sentences were not looked up')
+        print(f'{path.name} could not be read: its sentences were not looked up')
         return 0
-    places = list(sentences(text))
+    places = list(sentences(part(text)))
     quoted = list(quotes(page, places))
     missing = [f'{path.name}:{number}: {sentence}' for number, sentence in places if not has_row(sentence, quoted)]
-    print(*missing, f'{len(places)} sentences, {len(missing)} without a row', sep='\n')
+    print(*missing, f'{path.name}: {len(places)} sentences, {len(missing)} without a row', sep='\n')
     return len(missing)
 
 
+def document(number, name):
+    """The path of a document."""
+    default = os.environ.get(f'DOCUMENT_0{number}', ROOT.parent / 'shared' / name)
+    return pathlib.Path(sys.argv[number] if len(sys.argv) > number else default)
+
+
 def main():
-    default = os.environ.get('DOCUMENT_01', ROOT.parent / 'shared' / '01-scope.md')
-    path = pathlib.Path(sys.argv[1] if len(sys.argv) > 1 else default)
     page = (ROOT / 'docs' / 'MAP.md').read_text().splitlines()
-    missing = missing_names(page) + missing_rows(page, path)
+    missing = missing_names(page)
+    missing += missing_rows(page, document(1, '01-scope.md'), lambda text: text)
+    missing += missing_rows(page, document(2, '02-change-requests.md'), landed)
     sys.exit(1 if missing else 0)
 
 

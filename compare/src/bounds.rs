@@ -173,7 +173,7 @@ fn numbers(compare: &mut dyn FnMut(&[u8])) {
     ];
     let units = [
         "", "d", "h", "m", "s", "ms", "D", "H", "M", "S", "MS", "Ms", "w", "us", "ns", "day", "days", "mm", "mms", "sm", " d",
-        "d ", "d h",
+        "d ", "d h", "W", "ww", "wd", "week", " w", " ms", "m s", " m s", "\t\x0bd", "\x1cd", "\x00w",
     ];
     for numeral in numerals {
         for unit in units {
@@ -183,7 +183,7 @@ fn numbers(compare: &mut dyn FnMut(&[u8])) {
         }
     }
     // Parts in every order, with and without blanks between them.
-    let parts = ["1d", "23h", "59m", "999999999s", "7ms", "0ms", "1000000000d"];
+    let parts = ["1d", "23h", "59m", "999999999s", "7ms", "0ms", "1000000000d", "2w", "3 w", "30 d", "1 ms", "1 m s"];
     for first in parts {
         for second in parts {
             for gap in ["", " ", "\t\r\n", "\x1c", ",", "+"] {
@@ -193,6 +193,11 @@ fn numbers(compare: &mut dyn FnMut(&[u8])) {
         }
     }
     compare(b"older_than(999999999d999999999h999999999m999999999s999999999ms)");
+    compare(b"older_than(999999999w999999999d999999999h999999999m999999999s999999999ms)");
+    // A duration with a blank is quoted whole.
+    for text in ["30 d", "2 w", "1w 1d", "'1' d", "1 'd'", "'1 'd"] {
+        compare(format!("older_than({text})").as_bytes());
+    }
 }
 
 /// Reads into buffers of every length about the one that is needed.

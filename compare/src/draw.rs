@@ -44,6 +44,9 @@ pub const NAMES: [&str; 12] = ["a", "b", "c", "nas", "vault", "cellar", "nas2", 
 /// Names that only an image or quotes can hold.
 const ODD: [&str; 10] = ["", " ", "a b", "and", "readable", "(", "a && b", "'", "\0", "\x7f"];
 
+/// The milliseconds of a week.
+const WEEK: u64 = 604_800_000;
+
 /// A count: mostly small, at times at an end.
 fn count(draw: &mut Draw) -> usize {
     match draw.below(16) {
@@ -56,11 +59,27 @@ fn count(draw: &mut Draw) -> usize {
 
 /// A duration in milliseconds; `any` allows those that no text has.
 fn span(draw: &mut Draw, any: bool) -> u64 {
-    let small = [0, 1, 999, 1_000, 1_001, 59_999, 60_000, 3_599_999, 3_600_000, 86_399_999, 86_400_000, 2_592_000_000];
+    let small = [
+        0,
+        1,
+        999,
+        1_000,
+        1_001,
+        59_999,
+        60_000,
+        3_599_999,
+        3_600_000,
+        86_399_999,
+        86_400_000,
+        604_799_999,
+        WEEK,
+        691_200_000,
+        2_592_000_000,
+    ];
     match draw.below(8) {
         0 if any => draw.number() >> draw.below(64),
         1 if any => u64::MAX - draw.below(3) as u64,
-        2 => draw.of(&[86_400_000_u64, 3_600_000, 60_000, 1_000, 1]) * [1, 23, 24, 59, 60, 999_999_999][draw.below(6)],
+        2 => draw.of(&[WEEK, 86_400_000, 3_600_000, 60_000, 1_000, 1]) * [1, 23, 24, 59, 60, 999_999_999][draw.below(6)],
         3 => draw.number() % 1_000_000_000_000,
         _ => draw.of(&small),
     }
@@ -99,6 +118,31 @@ fn word(draw: &mut Draw, spelled: &str, text: &mut String) {
     }
 }
 
+/// A duration in one of its spellings: at times with weeks, at times in quotes with blanks round its numbers and units.
+fn spelled(draw: &mut Draw, span: Duration) -> String {
+    let (weeks, rest) = (span.as_millis() as u64 / WEEK, Duration::from_millis(span.as_millis() as u64 % WEEK));
+    let plain = match weeks {
+        0 => crate::clock::format_duration(span),
+        _ if draw.once_in(2) => crate::clock::format_duration(span),
+        _ if rest.is_zero() => format!("{weeks}w"),
+        _ => format!("{weeks}w{}", crate::clock::format_duration(rest)),
+    };
+    if !draw.once_in(3) {
+        return plain;
+    }
+    let mut quoted = "'".to_string();
+    let mut digits = None;
+    for c in plain.chars() {
+        if digits != Some(c.is_ascii_digit()) {
+            blanks(draw, &mut quoted);
+        }
+        digits = Some(c.is_ascii_digit());
+        quoted.push(c);
+    }
+    blanks(draw, &mut quoted);
+    quoted + "'"
+}
+
 /// Writes a rule in one of its spellings: blanks, quotes, signs or functions, brackets that need not be.
 pub fn spell(draw: &mut Draw, rule: &PruneExpr, text: &mut String) {
     let brackets = usize::from(draw.once_in(6)) * (1 + draw.below(2));
@@ -108,10 +152,9 @@ pub fn spell(draw: &mut Draw, rule: &PruneExpr, text: &mut String) {
         PruneExpr::Remote(name) if draw.once_in(6) => text.push_str(&format!("'{name}'")),
         PruneExpr::Remote(name) => text.push_str(name),
         PruneExpr::OlderThan(span) => {
-            let span = crate::clock::format_duration(*span);
             word(draw, "older_than", text);
             text.push('(');
-            text.push_str(&if draw.once_in(3) { format!("' {} '", span.replace('h', "h ")) } else { span });
+            text.push_str(&spelled(draw, *span));
             text.push(')');
         }
         PruneExpr::Readable(1) if draw.once_in(2) => word(draw, "readable", text),
@@ -163,7 +206,7 @@ fn joined(draw: &mut Draw, children: &[PruneExpr], functions: &[&str], signs: &[
 }
 
 /// Pieces that edits of a text put in.
-const PIECES: [&[u8]; 34] = [
+const PIECES: [&[u8]; 35] = [
     b"(",
     b")",
     b",",
@@ -184,6 +227,7 @@ const PIECES: [&[u8]; 34] = [
     b"1",
     b"d",
     b"ms",
+    b"w",
     b"+",
     b"readable",
     b"older_than(",

@@ -76,7 +76,8 @@ fn compare(options: &Options) -> bool {
 
 fn main() {
     let Some(options) = options() else {
-        eprintln!("usage: compare/run [--seconds N] [--seed S] [--length N] [--plant read|decide|check|print|buffer]");
+        eprintln!("usage: compare/run [--seconds N] [--seed S] [--length N] [--plant MISTAKE]");
+        eprintln!("a MISTAKE is one of {}", Plant::NAMES.map(|(name, _)| name).join(", "));
         std::process::exit(2);
     };
     // The deepest rules recurse thousands of calls deep on the Rust's side.

@@ -19,25 +19,52 @@ pub enum Plant {
     Print,
     /// Reading clears one byte behind an image of three nodes or more; a short buffer's first byte is cleared by printing.
     Buffer,
+    /// A week is six days, where the rule is one duration.
+    Week,
+    /// A blank between digits and a unit is refused, where the rule is one duration.
+    Blank,
+    /// A blank inside `ms` is accepted at the end of a quoted word.
+    Inside,
+    /// A duration of seven days prints as `1w`.
+    Weeks,
 }
 
 impl Plant {
+    /// Each mistake and the name by which it is asked for.
+    pub const NAMES: [(&str, Self); 9] = [
+        ("read", Plant::Read),
+        ("decide", Plant::Decide),
+        ("check", Plant::Check),
+        ("print", Plant::Print),
+        ("buffer", Plant::Buffer),
+        ("week", Plant::Week),
+        ("blank", Plant::Blank),
+        ("inside", Plant::Inside),
+        ("weeks", Plant::Weeks),
+    ];
+
     /// The mistake of that name.
     pub fn named(name: &str) -> Option<Self> {
-        Some(match name {
-            "read" => Plant::Read,
-            "decide" => Plant::Decide,
-            "check" => Plant::Check,
-            "print" => Plant::Print,
-            "buffer" => Plant::Buffer,
-            _ => return None,
-        })
+        Self::NAMES.iter().find(|known| known.0 == name).map(|known| known.1)
     }
 
     /// Reads.
     pub fn read(self, text: &[u8], image: &mut [u8]) -> Result<usize, Refusal> {
+        match self {
+            Plant::Blank if image.len() >= IMAGE_BYTES => {
+                if let Some(place) = spaced_duration(text) {
+                    return Err(Refusal { number: 13, place });
+                }
+            }
+            Plant::Inside => return prune::read(&joined_ms(text), image),
+            _ => {}
+        }
         let mut answer = prune::read(text, image);
         match (self, &mut answer) {
+            (Plant::Week, Ok(16)) if image[4] == 1 => {
+                let span = u64::from_le_bytes(image[8..16].try_into().unwrap()) - weeks(text) * 86_400_000;
+                image[8..16].copy_from_slice(&span.to_le_bytes());
+            }
             (Plant::Read, Err(refusal)) if (7..=14).contains(&refusal.number) => {
                 if let Some(b'"' | b'\'') = text.get(refusal.place as usize) {
                     refusal.place += 1;
@@ -83,11 +110,51 @@ impl Plant {
                     text[at + 2] = b'd';
                 }
             }
+            (Plant::Weeks, Ok(size)) => {
+                if let Some(at) = text[..size].windows(4).position(|part| part == b"(7d)") {
+                    text[at + 1..at + 3].copy_from_slice(b"1w");
+                }
+            }
             (Plant::Buffer, Err(Refusal { number: 1, .. })) => text.iter_mut().take(1).for_each(|byte| *byte = 0),
             _ => {}
         }
         answer
     }
+}
+
+/// Whether a byte is a blank: 9 to 13 or 32.
+fn is_blank(byte: u8) -> bool {
+    matches!(byte, 9..=13 | 32)
+}
+
+/// The weeks of a text that reads as one duration; no other letter of it is a `w`.
+fn weeks(text: &[u8]) -> u64 {
+    let Some(unit) = text.iter().position(|&byte| byte == b'w') else { return 0 };
+    let digits = text[..unit].iter().rev().skip_while(|&&byte| is_blank(byte)).take_while(|byte| byte.is_ascii_digit());
+    digits.zip(0..).map(|(digit, power)| u64::from(digit - b'0') * 10_u64.pow(power)).sum()
+}
+
+/// Where the word begins in a text that reads as one duration, in quotes, with a blank between digits and a unit.
+fn spaced_duration(text: &[u8]) -> Option<u32> {
+    let mut image = vec![0; IMAGE_BYTES];
+    if prune::read(text, &mut image) != Ok(16) || image[4] != 1 {
+        return None;
+    }
+    let open = text.iter().rposition(|&byte| byte == b'(')?;
+    let place = open + text[open..].iter().position(|byte| b"'\"".contains(byte))?;
+    let spaced = text[place..].windows(2).any(|pair| pair[0].is_ascii_digit() && is_blank(pair[1]));
+    spaced.then_some(place as u32)
+}
+
+/// The text with a blank inside `ms`, at the end of a quoted word, put after it.
+fn joined_ms(text: &[u8]) -> Vec<u8> {
+    let mut joined = text.to_vec();
+    for at in 3..text.len() {
+        if &text[at - 3..at] == b"m s" && b"'\"".contains(&text[at]) {
+            joined[at - 3..at].copy_from_slice(b"ms ");
+        }
+    }
+    joined
 }
 
 /// Whether a rule evicts at the largest age on one write-only store alone.

@@ -30,19 +30,21 @@ pub mod serde {
     }
 }
 
-/// The two functions of the Rust's `clock.rs` that `policy.rs` calls, by document 01's rule for durations.
+/// The two functions of the Rust's `clock.rs` that `policy.rs` calls, by document 01's rule for durations as document 02's Job 1
+/// amends it.
 pub mod clock {
     use std::time::Duration;
 
-    /// The units in the order in which they fall, and the milliseconds of each.
-    const UNITS: [(&str, u64); 5] = [("d", 86_400_000), ("h", 3_600_000), ("m", 60_000), ("s", 1_000), ("ms", 1)];
+    /// The units in the order in which they fall, and the milliseconds of each. Weeks are read, and not printed.
+    const UNITS: [(&str, u64); 6] =
+        [("w", 604_800_000), ("d", 86_400_000), ("h", 3_600_000), ("m", 60_000), ("s", 1_000), ("ms", 1)];
 
     /// Whether a character is a blank: 9 to 13 or 32.
     fn is_blank(c: char) -> bool {
         matches!(c, '\t'..='\r' | ' ')
     }
 
-    /// One or more parts with optional blanks round them: 1 to 9 digits and a unit each, the units falling.
+    /// One or more parts with optional blanks round them: 1 to 9 digits, optional blanks and a unit each, the units falling.
     pub fn parse_duration(s: &str) -> Result<Duration, String> {
         let fault = || Err(format!("'{s}' is no duration"));
         let mut rest = s.trim_matches(is_blank);
@@ -57,6 +59,7 @@ pub mod clock {
                 return fault();
             }
             let (number, behind) = rest.split_at(digits);
+            let behind = behind.trim_start_matches(is_blank);
             let letters = behind.bytes().take_while(u8::is_ascii_lowercase).count();
             let (unit, behind) = behind.split_at(letters);
             let Some(index) = allowed.iter().position(|known| known.0 == unit) else {
@@ -69,11 +72,11 @@ pub mod clock {
         Ok(Duration::from_millis(total))
     }
 
-    /// The nonzero parts in the order of the units, without blanks; `0s` for none.
+    /// The nonzero parts in the order of the units, beginning with days, without blanks; `0s` for none.
     pub fn format_duration(d: Duration) -> String {
         let mut left = d.as_millis() as u64;
         let mut text = String::new();
-        for (unit, worth) in UNITS {
+        for (unit, worth) in &UNITS[1..] {
             if left / worth > 0 {
                 text += &format!("{}{unit}", left / worth);
             }

@@ -29,7 +29,7 @@ const TOKENS: [&str; 19] = [
 
 /// Tokens that stand in sequences up to one less than the full length. Long ones and a foreign byte, made below, reach 2, 3
 /// and 15 in sequences up to two less.
-const MORE: [&str; 5] = ["'1h 2ms'", "'+1'", "\"", "|", "x."];
+const MORE: [&str; 5] = ["'1w 2 ms'", "'+1'", "\"", "|", "x."];
 
 /// Calls up to their bracket or comma, whose sequences go one token further.
 const CALLS: [&str; 9] = ["any(", "ALL(", "at_least(2,", "(", ")", ",", "&&", "||", "a"];

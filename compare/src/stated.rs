@@ -1,12 +1,12 @@
-//! The answers that document 01 and the design's list of traps state themselves, and some that follow from one sentence of
-//! theirs. The answers that the comparison holds the port to, the Rust's among them, must be these.
+//! The answers that document 01, document 02's Job 1 and the design's list of traps state themselves, and some that follow from
+//! one sentence of theirs. The answers that the comparison holds the port to, the Rust's among them, must be these.
 
 use crate::layout;
 use crate::oracle::{self, List, Stores};
 use crate::tally::Tally;
 
 /// Texts that read: the numbers of nodes and of name bytes, and what they print as.
-const READ: [(&str, u8, u8, &str); 17] = [
+const READ: [(&str, u8, u8, &str); 23] = [
     ("nas && readable(1)", 3, 3, "nas && readable(1)"),
     ("a && b || c", 5, 3, "a && b || c"),
     ("a && (b && c)", 5, 3, "a && b && c"),
@@ -24,10 +24,16 @@ const READ: [(&str, u8, u8, &str); 17] = [
     ("''", 1, 0, ""),
     ("all(any(a))", 3, 1, "(a)"),
     ("older_than(0s)", 1, 0, "older_than(0s)"),
+    ("older_than(2w)", 1, 0, "older_than(14d)"),
+    ("older_than('30 d')", 1, 0, "older_than(30d)"),
+    ("older_than(\"1w 1d\")", 1, 0, "older_than(8d)"),
+    ("older_than('1 ms')", 1, 0, "older_than(1ms)"),
+    ("older_than('\t1 \x0b\x0c\r\nw ')", 1, 0, "older_than(7d)"),
+    ("older_than(999999999w)", 1, 0, "older_than(6999999993d)"),
 ];
 
 /// Texts that don't: the number and the place.
-const REFUSED: [(&str, u8, usize); 36] = [
+const REFUSED: [(&str, u8, usize); 43] = [
     ("any(a,)", 7, 6),
     ("any()", 14, 0),
     ("", 7, 0),
@@ -49,6 +55,13 @@ const REFUSED: [(&str, u8, usize); 36] = [
     ("older_than('1m s')", 13, 11),
     ("older_than(1ms1s)", 13, 11),
     ("older_than(30D)", 13, 11),
+    ("older_than(30 d)", 8, 14),
+    ("older_than('1 m s')", 13, 11),
+    ("older_than('1w1w')", 13, 11),
+    ("older_than('1d1w')", 13, 11),
+    ("older_than('1W')", 13, 11),
+    ("older_than('1000000000 w')", 13, 11),
+    ("older_than(' 1 ')", 13, 11),
     ("at_least(2)", 11, 10),
     ("at_least(2,)", 14, 0),
     ("at_least(2, ", 7, 12),

@@ -1,4 +1,4 @@
--- Durations, as document 01's paragraph lays them down. Assumes nothing.
+-- Durations, as document 01's paragraph and document 02's Job 1 lay them down. Assumes nothing.
 use Prim.Native.Nat.{ℕ, _+_, _*_, _≤_}
 use Prim.Native.String.{String}
 use mathlib.Core.Path.{_≡_}
@@ -24,9 +24,10 @@ pub record NamedUnit : Type 0 where
 abbrev pub unit : String → ℕ → NamedUnit
 unit name ms = record { name = bytes name; milliseconds = ms }
 
--- "its unit d, h, m, s or ms (86,400,000, 3,600,000, 60,000, 1,000, 1 milliseconds)"
+-- "its unit d, h, m, s or ms (86,400,000, 3,600,000, 60,000, 1,000, 1 milliseconds)", and Job 1: "Add the unit w, 604,800,000
+-- milliseconds, before d."
 abbrev pub units : List NamedUnit
-units = unit "d" 86_400_000 ∷ unit "h" 3_600_000 ∷ unit "m" 60_000 ∷ unit "s" 1_000 ∷ unit "ms" 1 ∷ []
+units = unit "w" 604_800_000 ∷ unit "d" 86_400_000 ∷ unit "h" 3_600_000 ∷ unit "m" 60_000 ∷ unit "s" 1_000 ∷ unit "ms" 1 ∷ []
 
 -- the unit of a rank, counted from 0
 abbrev pub unitAt : ℕ → NamedUnit
@@ -48,17 +49,22 @@ unfoldable pub digitsEnd : List ℕ → ℕ → ℕ
 unfolding isDigit runEnd
 digitsEnd w at = runEnd isDigit w at
 
--- and where its unit's name ends: "no blank inside"
-unfoldable pub unitEnd : List ℕ → ℕ → ℕ
-unfolding digitsEnd isUnitByte
-unitEnd w at = runEnd isUnitByte w (digitsEnd w at)
+-- where its unit's name begins: Job 1, "Allow blanks between the digits and the unit"
+unfoldable pub unitStart : List ℕ → ℕ → ℕ
+unfolding digitsEnd ofClass
+unitStart w at = runEnd (ofClass blank) w (digitsEnd w at)
 
--- "A part is 1 to 9 digits and its unit, lower case"
+-- and where that ends: "no blank inside"
+unfoldable pub unitEnd : List ℕ → ℕ → ℕ
+unfolding unitStart isUnitByte
+unitEnd w at = runEnd isUnitByte w (unitStart w at)
+
+-- "A part is 1 to 9 digits and its unit .., lower case", with those blanks
 unfoldable pub isPart : NamedUnit → List ℕ → ℕ → Bool
 unfolding unitEnd part equalBy
 isPart u w at =
     ltb at (digitsEnd w at) && leb (digitsEnd w at) (at + 9) &&
-    equal (part w (digitsEnd w at) (unitEnd w at)) (u .name)
+    equal (part w (unitStart w at) (unitEnd w at)) (u .name)
 
 -- its milliseconds
 unfoldable pub amountOf : NamedUnit → List ℕ → ℕ → ℕ

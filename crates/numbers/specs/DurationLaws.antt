@@ -1,4 +1,5 @@
--- Laws of durations: the bytes of a unit's name, a part by where its digits and its name end, how large it is, and the parts unit by unit. Assumes nothing.
+-- Laws of durations: the bytes of a unit's name, a part by where its digits end and its unit's name begins and ends, how large it is, and
+-- the parts unit by unit. Assumes nothing.
 use mathlib.Core.Path.{_≡_, refl, sym, ap, _∙_}
 use mathlib.Core.Bool.{Bool, true, false, not, _&&_, _||_, and-false, and-eq-true-iff}
 use mathlib.Core.List.{List, [], _∷_}
@@ -17,7 +18,7 @@ use Rattle.ascii.specs.TextLaws.{end-ge, end-le}
 use Rattle.classes.specs.Class.{classOf, ofClass, blank}
 use Rattle.numbers.specs.Decimal.{decimal}
 use Rattle.numbers.specs.DecimalLaws.{decimal-small}
-use Rattle.numbers.specs.Duration.{NamedUnit, unit, units, unitAt, isUnitByte, digitsEnd, unitEnd, isPart, amountOf, nextPart, partAt, plus, partThen, partsFrom, durationOf}
+use Rattle.numbers.specs.Duration.{NamedUnit, unit, units, unitAt, isUnitByte, digitsEnd, unitStart, unitEnd, isPart, amountOf, nextPart, partAt, plus, partThen, partsFrom, durationOf}
 use Rattle.numbers.specs.declared.Parsed.{Parsed}
 use Rattle.numbers.specs.declared.Parsed.the-variants.{Value, Invalid}
 use Rattle.numbers.specs.declared.duration.Part.{Part}
@@ -33,9 +34,9 @@ module _ (b : ℕ) where
   unfolding isUnitByte
   unit-other d e = ap (λ (v : Bool). not (v || ofClass blank b)) d ∙ ap (λ (k : ℕ). not (eqb k blank)) (sym e)
 
--- ---- units: the last of five ranks
-pub last-rank : (rank : ℕ) → rank < 5 → rank ≢ 0 → rank ≢ 1 → rank ≢ 2 → rank ≢ 3 → rank ≡ 4
-last-rank rank h n₀ n₁ n₂ n₃ = omega arith
+-- ---- units: the last rank
+pub last-rank : (rank : ℕ) → rank < length units → rank ≢ 0 → rank ≢ 1 → rank ≢ 2 → rank ≢ 3 → rank ≢ 4 → rank ≡ 5
+last-rank rank h n₀ n₁ n₂ n₃ n₄ = omega arith
 
 -- no unit of these has more milliseconds
 most : List NamedUnit → ℕ
@@ -48,13 +49,13 @@ of-most [] i = omega arith
 of-most (u ∷ us) zero = omega arith
 of-most (u ∷ us) (suc i) = omega (arith, of-most us i)
 
--- no part has more milliseconds than 10^9 days
+-- no part has more milliseconds than 10^9 weeks; six of them are less than 2^64
 abbrev pub partMost : ℕ
-partMost = 10 ^ 9 * 86_400_000
+partMost = 10 ^ 9 * 604_800_000
 
 pub amount-small : (rank : ℕ) {n ms : ℕ} → n < 10 ^ 9 → ms ≡ unitAt rank .milliseconds → n * ms ≤ partMost
 unfolding most
-amount-small rank {ms = ms} h e = let l : ms ≤ 86_400_000 = omega (arith, of-most units rank) in mul-le-mul (le-of-lt h) l
+amount-small rank {ms = ms} h e = let l : ms ≤ 604_800_000 = omega (arith, of-most units rank) in mul-le-mul (le-of-lt h) l
 
 -- ---- a part
 module _ (u : NamedUnit) (w : List ℕ) (at : ℕ) where
@@ -77,16 +78,16 @@ module _ (u : NamedUnit) (w : List ℕ) (at : ℕ) where
     unfolding isPart
     part-long h = no-part (rw (lt-leb (digitsEnd w at) (at + 9) (omega arith), and-false (ltb at (digitsEnd w at))))
 
-    module _ {end : ℕ} (e : end ≡ runEnd isUnitByte w digits) where
+    module _ {start end : ℕ} (b : start ≡ runEnd (ofClass blank) w digits) (e : end ≡ runEnd isUnitByte w start) where
       -- another name
-      pub part-other : equal (part w digits end) (u .name) ≡ false → partAt u w at ≡ Not
+      pub part-other : equal (part w start end) (u .name) ≡ false → partAt u w at ≡ Not
       unfolding isPart
-      part-other h = no-part (rw (rw (e, d) at h, and-false (ltb at (digitsEnd w at) && leb (digitsEnd w at) (at + 9))))
+      part-other h = no-part (rw (rw (e, b, d) at h, and-false (ltb at (digitsEnd w at) && leb (digitsEnd w at) (at + 9))))
 
-      pub part-found : (digits ≡ at → ⊥) → digits ≤ at + 9 → equal (part w digits end) (u .name) ≡ true → partAt u w at ≡ Of (decimal (part w at digits) * u .milliseconds) (runEnd (ofClass blank) w end)
+      pub part-found : (digits ≡ at → ⊥) → digits ≤ at + 9 → equal (part w start end) (u .name) ≡ true → partAt u w at ≡ Of (decimal (part w at digits) * u .milliseconds) (runEnd (ofClass blank) w end)
       unfolding partAt
       part-found l m h =
-          rw (lt-ltb at (digitsEnd w at) (omega (arith, end-ge isDigit w at)), le-leb (digitsEnd w at) (at + 9) (omega arith), rw (e, d) at h, e, d)
+          rw (lt-ltb at (digitsEnd w at) (omega (arith, end-ge isDigit w at)), le-leb (digitsEnd w at) (at + 9) (omega arith), rw (e, b, d) at h, e, b, d)
 
 -- what a part that is there keeps to
 module _ (u : NamedUnit) (w : List ℕ) (at : ℕ) {n next : ℕ} (q : partAt u w at ≡ Of n next) where
@@ -101,7 +102,7 @@ module _ (u : NamedUnit) (w : List ℕ) (at : ℕ) {n next : ℕ} (q : partAt u 
   unfolding nextPart
   part-within h =
       let i = part-is in
-      omega (arith, end-le (ofClass blank) w (unitEnd w at) (end-le isUnitByte w (digitsEnd w at) (end-le isDigit w at h)))
+      omega (arith, end-le (ofClass blank) w (unitEnd w at) (end-le isUnitByte w (unitStart w at) (end-le (ofClass blank) w (digitsEnd w at) (end-le isDigit w at h))))
 
 pub part-small : (rank : ℕ) (w : List ℕ) (at : ℕ) {n next : ℕ} → partAt (unitAt rank) w at ≡ Of n next → n ≤ partMost
 unfolding isPart amountOf
@@ -127,11 +128,11 @@ parts-start w e = plus-zero _ ∙ ap (partsFrom units w) e
 
 module _ (total : ℕ) (w : List ℕ) (at rank : ℕ) where
   -- behind the last unit
-  pub parts-end : 5 ≤ rank → plus total (partsFrom (drop rank units) w at) ≡ Invalid
+  pub parts-end : length units ≤ rank → plus total (partsFrom (drop rank units) w at) ≡ Invalid
   unfolding partsFrom
   parts-end h = rw (drop-of-length-le units h)
 
-  module _ (h : rank < 5) where
+  module _ (h : rank < length units) where
     parts-at : {p : Part} → partAt (unitAt rank) w at ≡ p → partsFrom (drop rank units) w at ≡ partThen p (length w) at (partsFrom (drop (rank + 1) units) w)
     unfolding partsFrom
     parts-at e = rw (add-one rank, drop-cons units rank (unit "" 0) h, e)

@@ -6,9 +6,10 @@ ghost use Rattle.ascii.specs.Text.{part, runEnd};
 ghost use Rattle.ascii.specs.Letters.{isDigit};
 ghost use Rattle.classes.specs.Class.{faults};
 ghost use Rattle.numbers.specs.Decimal.{decimal};
-ghost use Rattle.numbers.specs.Duration.{isUnitByte, unitAt, partAt, durationOf};
+ghost use Rattle.numbers.specs.Duration.{isUnitByte, units, unitAt, partAt, durationOf};
 use crate::Parsed;
 use crate::digit_of;
+use crate::unit::UNITS;
 use crate::unit::time_unit;
 use ascii::is_digit;
 use classes::class_at;
@@ -74,8 +75,9 @@ pub enum Part {
     Not,
 }
 
+// A part of the unit of a rank: 1 to 9 digits, blanks or none, and the unit's name.
 fn part_at(word: &[u8], at: usize, rank: usize, class: &[u8; 256]) -> Part
-    requires { ⌜ (at ≤ length (now word)) × ((rank < 5) × (faults (now class) ≡ 0)) ⌝ }
+    requires { ⌜ (at ≤ length (now word)) × ((rank < length units) × (faults (now class) ≡ 0)) ⌝ }
     ensures { λ r. ⌜ r ≡ partAt (unitAt rank) (now (word .entry)) at ⌝ }
 {
     let digits = digits_end(word, at);
@@ -85,11 +87,12 @@ fn part_at(word: &[u8], at: usize, rank: usize, class: &[u8; 256]) -> Part
     if at + 9 < digits {
         return Part::Not;
     }
-    let end = unit_end(word, digits, class);
+    let start = class_end(word, digits, classes::BLANK, class);
+    let end = unit_end(word, start, class);
     let unit = time_unit(rank);
     let name = unit.name;
     let len = unit.len;
-    if ascii::eq(&word[digits..end], &name[..len]) {
+    if ascii::eq(&word[start..end], &name[..len]) {
         let next = class_end(word, end, classes::BLANK, class);
         return Part::Of(decimal_of(word, at, digits) * unit.milliseconds, next);
     }
@@ -104,7 +107,7 @@ pub fn parse_duration(word: &[u8], class: &[u8; 256]) -> Parsed
     let mut at = class_end(word, 0, classes::BLANK, class);
     let mut total: u64 = 0;
     let mut rank = 0;
-    while rank < 5 {
+    while rank < UNITS {
         if let Part::Of(amount, next) = part_at(word, at, rank, class) {
             total += amount;
             if word.len() <= next {

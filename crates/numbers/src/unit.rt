@@ -1,6 +1,7 @@
 // The units of durations.
 ghost use Prim.Native.Nat.{_<_};
-ghost use Rattle.numbers.specs.Duration.{unitAt, IsUnit};
+ghost use lib.ListN.{length};
+ghost use Rattle.numbers.specs.Duration.{units, unitAt, IsUnit};
 
 // A unit of time: its name, of which the first `len` bytes count, and its milliseconds.
 pub struct TimeUnit {
@@ -9,28 +10,36 @@ pub struct TimeUnit {
     pub milliseconds: u64,
 }
 
+// How many units there are.
+pub const UNITS: usize = 6;
+
 // The units in the order in which they fall.
 pub fn time_unit(rank: usize) -> TimeUnit
-    requires { ⌜ rank < 5 ⌝ }
+    requires { ⌜ rank < length units ⌝ }
     ensures { λ r. ⌜ IsUnit (unitAt rank) r ⌝ }
 {
     match rank {
         0 => TimeUnit {
+            name: *b"w ",
+            len: 1,
+            milliseconds: 604_800_000,
+        },
+        1 => TimeUnit {
             name: *b"d ",
             len: 1,
             milliseconds: 86_400_000,
         },
-        1 => TimeUnit {
+        2 => TimeUnit {
             name: *b"h ",
             len: 1,
             milliseconds: 3_600_000,
         },
-        2 => TimeUnit {
+        3 => TimeUnit {
             name: *b"m ",
             len: 1,
             milliseconds: 60_000,
         },
-        3 => TimeUnit {
+        4 => TimeUnit {
             name: *b"s ",
             len: 1,
             milliseconds: 1_000,

@@ -189,10 +189,22 @@ rows =
     duration "1m s" Invalid ∷
     duration "1ms1s" Invalid ∷
     duration "1h1h" Invalid ∷
-    duration "1 d" Invalid ∷
+    duration "1 d" (Value 86_400_000) ∷
     duration "30D" Invalid ∷
     duration "30" Invalid ∷
     duration "" Invalid ∷
+    duration "2w" (Value 1_209_600_000) ∷
+    duration "1w 1d" (Value 691_200_000) ∷
+    duration "30 d" (Value 2_592_000_000) ∷
+    duration "\t1 \n\u{b}\u{c}\r w 2 ms" (Value 604_800_002) ∷
+    duration "1 ms" (Value 1) ∷
+    duration "1 m s" Invalid ∷
+    duration "1w1w" Invalid ∷
+    duration "1d1w" Invalid ∷
+    duration "1W" Invalid ∷
+    duration "0000000001 w" Invalid ∷
+    duration "1 0w" Invalid ∷
+    duration "999999999w999999999d999999999h999999999m999999999s999999999ms" (Value 694_861_000_305_138_999) ∷
     reads "a && b || c" (two any (two all (name "a") (name "b")) (name "c")) 5 ∷
     reads "a && (b && c)" (two all (name "a") (two all (name "b") (name "c"))) 5 ∷
     reads "(a && b) && c" (three all (name "a") (name "b") (name "c")) 4 ∷
@@ -201,6 +213,7 @@ rows =
     reads "at_least(1,a) || b" (two any (node (atLeast 1) nil (name "a")) (name "b")) 4 ∷
     reads "older_than(30d) && readable(1)" (two all (leaf (olderThan 2_592_000_000)) (leaf (readable 1))) 3 ∷
     reads "older_than(\"1h 30m\")" (leaf (olderThan 5_400_000)) 1 ∷
+    reads "older_than(\"1w 1d\")" (leaf (olderThan 691_200_000)) 1 ∷
     reads "'READABLE'" (leaf (readable 1)) 1 ∷
     reads "at_least(2, nas, vault)" (two (atLeast 2) (name "nas") (name "vault")) 3 ∷
     refuses "any(a,)" noExpression 6 ∷
@@ -222,6 +235,7 @@ rows =
     refuses "at_least(2, " noExpression 12 ∷
     refuses "older_than()" missingArgument 11 ∷
     refuses "older_than(30D)" badDuration 11 ∷
+    refuses "older_than(30 d)" openBracket 14 ∷
     refuses "(a,b)" openBracket 2 ∷
     refuses "()" noExpression 1 ∷
     judges home "nas || vault" (no archiveOnly 0) ∷
@@ -246,6 +260,8 @@ rows =
     reprints "a || (b && (c || d))" "a || b && (c || d)" ∷
     reprints "at_least(2, nas, any(a, b), all(c, d))" "at_least(2, nas, a || b, c && d)" ∷
     reprints "READABLE && older_than('1h 30m')" "readable(1) && older_than(1h30m)" ∷
+    reprints "older_than(2w) || older_than('30 d')" "older_than(14d) || older_than(30d)" ∷
+    reprints "older_than(999999999w)" "older_than(6999999993d)" ∷
     prints (one all (name "a")) "a" ∷
     prints (one any (name "a")) "a" ∷
     prints (two all (one any (name "a")) (name "b")) "(a) && b" ∷

@@ -16,7 +16,7 @@ abbrev Inv-loop : tie.InvT-loop
 Inv-loop word class at₀ total₀ rank₀ at total rank = (at ≤ length word) × ((total ≤ rank * partMost) × (plus total (partsFrom (drop rank units) word at) ≡ durationOf word))
 
 abbrev μ-loop : tie.MeasureT-loop
-μ-loop word class at₀ total₀ rank₀ at total rank = 5 - rank
+μ-loop word class at₀ total₀ rank₀ at total rank = length units - rank
 
 class-end-requires : tie.Need-class-end-requires Inv-loop μ-loop
 class-end-requires c κs = search needs

@@ -5,10 +5,10 @@ use native.Mathlib.Omega.{arith}
 use borrow.Author.Needs.{needs}
 use lib.ListN.{length, length-map}
 use lib.Seq.{length-take-le}
-use Rattle.ascii.specs.Letters.{isDigit, equal}
+use Rattle.ascii.specs.Letters.{equal}
 use Rattle.ascii.specs.Text.{part}
 use Rattle.ascii.specs.TextLaws.{end-within}
-use Rattle.numbers.specs.Duration.{unitAt, isUnitByte}
+use Rattle.numbers.specs.Duration.{unitAt}
 use Rattle.numbers.specs.DurationLaws.{amount-small, part-none, part-long, part-other, part-found}
 use Rattle.numbers.proofs.duration.part_at.Statement.{statement}
 use Rattle.numbers.proofs.duration.part_at.Tie as tie
@@ -25,29 +25,39 @@ add-if2 c = search needs
 returns-2 : tie.Need-returns-2
 returns-2 c = sym (part-long _ _ _ (c .before .before .digits-end .ensures) (omega arith))
 
+class-end-requires : tie.Need-class-end-requires
+class-end-requires c κs = search needs
+
 unit-end-requires : tie.Need-unit-end-requires
 unit-end-requires c κs = search needs
 
 time-unit-requires : tie.Need-time-unit-requires
 time-unit-requires c κs = search needs
 
--- the digits end no earlier than they begin, the name no earlier than the digits, and both within the word
-ends : (c : tie.After-unit-end) → let s = c .before .before .before .before .before .args in let d = c .before .before .before .digits-end .result in (s .at ≤ d) × (d ≤ c .unit-end .result) × (c .unit-end .result ≤ length (s .word .now))
+-- within the word, the digits end no earlier than they begin, and the unit's name no earlier than it begins, after blanks
+ends : (c : tie.After-unit-end) →
+    let digits = c .before .before .before .before .digits-end .result in
+    let start = c .before .class-end .result in
+    let entry = c .before .before .before .before .before .before .args in
+    (entry .at ≤ digits) × (digits ≤ length (entry .word .now)) × (start ≤ c .unit-end .result) × (c .unit-end .result ≤ length (entry .word .now))
 ends c =
-    let s = c .before .before .before .before .before in
-    let d = c .before .before .before .digits-end in
-    let a = end-within isDigit (s .args .word .now) (s .args .at) (s .pre .0) (d .ensures) in
-    let b = end-within isUnitByte (s .args .word .now) (d .result) (a .1) (c .unit-end .ensures) in
-    (a .0, b .0, b .1)
+    let blanks = c .before .class-end in
+    let digits = c .before .before .before .before .digits-end in
+    let entry = c .before .before .before .before .before .before in
+    let word = entry .args .word .now in
+    let d = end-within _ word (entry .args .at) (entry .pre .0) (digits .ensures) in
+    let b = end-within _ word (digits .result) (d .1) (blanks .ensures) in
+    let u = end-within _ word (blanks .result) (b .1) (c .unit-end .ensures) in
+    (d .0, d .1, u .0, u .1)
 
 sub-eq : tie.Need-sub-eq
-sub-eq c = ends (c .before .before) .1
+sub-eq c = ends (c .before .before) .2
 
 part-eq-start : tie.Need-part-eq-start
-part-eq-start c = ends (c .before .before) .1
+part-eq-start c = ends (c .before .before) .2
 
 part-eq-end : tie.Need-part-eq-end
-part-eq-end c = ends (c .before .before) .2
+part-eq-end c = ends (c .before .before) .3
 
 -- a unit's name is within its array, which has two elements
 in-name : (c : tie.After-time-unit) → c .time-unit .result .len ≤ length (c .time-unit .result .name)
@@ -65,36 +75,46 @@ eq-requires : tie.Need-eq-requires
 eq-requires c κs = search needs
 
 -- what is compared is the name in the word and the unit's
-named : (c : tie.After-eq) → let s = c .before .before .before .before .before .before .before .before .before .before .args in c .eq .result ≡ equal (part (s .word .now) (c .before .before .before .before .before .before .before .before .digits-end .result) (c .before .before .before .before .before .unit-end .result)) (unitAt (s .rank) .name)
+named : (c : tie.After-eq) →
+    let u = c .before .before .before .before .before in
+    let entry = u .before .before .before .before .before .before .args in
+    c .eq .result ≡ equal (part (entry .word .now) (u .before .class-end .result) (u .unit-end .result)) (unitAt (entry .rank) .name)
 unfolding part
 named c = c .eq .ensures ∙ ap (equal _) (c .before .before .before .before .time-unit .ensures .name)
 
-class-end-requires : tie.Need-class-end-requires
-class-end-requires c κs = search needs
+class-end-requires-2 : tie.Need-class-end-requires-2
+class-end-requires-2 c κs = search needs
 
 decimal-of-requires : tie.Need-decimal-of-requires
 decimal-of-requires c κs =
-    let e = c .before .before .before .before .before .before .before in
-    let l = ends e in
-    (l .0, (omega arith, (omega (arith, e .before .if2 .left), sym (e .before .before .before .digits-end .ensures))))
+    let u = c .before .before .before .before .before .before .before in
+    let few = u .before .before in
+    let l = ends u in
+    (l .0, (omega arith, (omega (arith, few .if2 .left), sym (few .before .before .digits-end .ensures))))
 
-mul-t20 : tie.Need-mul-t20
-mul-t20 c =
+mul-t21 : tie.Need-mul-t21
+mul-t21 c =
     let t = c .before .before .before .before .before .before .before .before in
-    omega (arith, amount-small (t .before .before .before .before .before .before .args .rank) (c .before .decimal-of .ensures .1) (t .time-unit .ensures .milliseconds))
+    let entry = t .before .before .before .before .before .before .before .args in
+    omega (arith, amount-small (entry .rank) (c .before .decimal-of .ensures .1) (t .time-unit .ensures .milliseconds))
 
 returns-3 : tie.Need-returns-3
 returns-3 c =
     let q = c .before .before .before .before in
     let t = q .before .before .before .before in
-    let e = t .before in
-    rw (c .before .decimal-of .ensures .0, t .time-unit .ensures .milliseconds, c .before .before .class-end .ensures)
-    (sym (part-found _ _ _ (e .before .before .before .digits-end .ensures) (e .unit-end .ensures) (e .before .before .if1 .left) (omega (arith, e .before .if2 .left)) (sym (named q) ∙ c .before .before .before .if3 .taken)))
+    let u = t .before in
+    let few = u .before .before in
+    rw (c .before .decimal-of .ensures .0, t .time-unit .ensures .milliseconds, c .before .before .class-end2 .ensures)
+    (sym
+    (part-found _ _ _ (few .before .before .digits-end .ensures) (u .before .class-end .ensures) (u .unit-end .ensures) (few .before .if1 .left)
+    (omega (arith, few .if2 .left)) (sym (named q) ∙ c .before .before .before .if3 .taken)))
 
 returns-4 : tie.Need-returns-4
 returns-4 c =
-    let e = c .before .before .before .before .before .before in
-    sym (part-other _ _ _ (e .before .before .before .digits-end .ensures) (e .unit-end .ensures) (sym (named (c .before)) ∙ c .if3 .left))
+    let u = c .before .before .before .before .before .before in
+    sym
+    (part-other _ _ _ (u .before .before .before .before .digits-end .ensures) (u .before .class-end .ensures) (u .unit-end .ensures)
+    (sym (named (c .before)) ∙ c .if3 .left))
 
 pub part-at-spec : {M : Type 1} → statement M
 part-at-spec =
@@ -104,6 +124,7 @@ part-at-spec =
     returns
     add-if2
     returns-2
+    class-end-requires
     unit-end-requires
     time-unit-requires
     sub-eq
@@ -112,8 +133,8 @@ part-at-spec =
     array-share-prefix-name
     slice-aggregate-eq
     eq-requires
-    class-end-requires
+    class-end-requires-2
     decimal-of-requires
-    mul-t20
+    mul-t21
     returns-3
     returns-4)
