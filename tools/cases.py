@@ -865,6 +865,8 @@ def week_cases():
     no(b'older_than(1 d', 8, 13)
     no(b'older_than("1" d)', 8, 15)
     no(b'older_than(1 "d")', 8, 13)
+    note('What the most weeks print as can not be read again; and rules with weeks and blanks in them')
+    no(b'older_than(6999999993d)', 13, 11)
     no(b"any(a, older_than('1 m s'))", 13, 18)
     ok(b"any(a, older_than('1 ms'))", 3, 1, root=(ANY, 0))
     ok(b'2w', 1, 2)

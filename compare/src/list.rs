@@ -223,6 +223,7 @@ fn list() -> bool {
     let mut draw = Draw::new(SEED);
     stated::all(&mut lines, &stores, &lists);
     sequences::short_texts(&mut lines, &tables);
+    sequences::durations(&mut lines, &tables);
     sequences::tokens(&mut lines, &tables, TOKENS);
     bounds::all(&mut lines, &tables);
     for _ in 0..ROUNDS {

@@ -59,6 +59,7 @@ fn compare(options: &Options) -> bool {
     let mut draw = Draw::new(options.seed);
     stated::all(&mut tally, &stores, &lists);
     sequences::short_texts(&mut tally, &tables);
+    sequences::durations(&mut tally, &tables);
     bounds::all(&mut tally, &tables);
     turned::all(&mut tally);
     shown::small(&mut tally);

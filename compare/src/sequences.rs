@@ -1,4 +1,4 @@
-//! Inputs that are exhausted: token sequences and short texts.
+//! Inputs that are exhausted: token sequences, short texts and short durations.
 
 use crate::layout;
 use crate::oracle::{List, Stores};
@@ -39,6 +39,9 @@ const CHAINS: [&str; 6] = ["a", "(", ")", "&&", "||", "oneof("];
 
 /// The bytes of the shortest texts.
 const BYTES: &[u8; 20] = b"(),&|'\"ab1d+# \t_-\x00\x7f\x80";
+
+/// The bytes of the shortest durations.
+const DURATION: &[u8; 6] = b"1wdms ";
 
 /// Whether a byte can stand in a word.
 fn in_word(byte: Option<&u8>) -> bool {
@@ -141,6 +144,20 @@ pub fn tokens(tally: &mut dyn Tally, tables: &Tables, longest: usize) {
         tally.part(name);
         for length in 0..=longest {
             of_length(tally, tables, alphabet, plain, length, &mut turn);
+        }
+    }
+}
+
+/// Tallies all durations of up to six of the chosen bytes, in quotes.
+pub fn durations(tally: &mut dyn Tally, tables: &Tables) {
+    let mut turn = 0;
+    tally.part("short durations");
+    for length in 0..=6 {
+        for code in 0..DURATION.len().pow(length) {
+            let word = (0..length).map(|at| DURATION[code / DURATION.len().pow(at) % DURATION.len()]);
+            let text: Vec<u8> = b"older_than('".iter().copied().chain(word).chain(*b"')").collect();
+            tally.text(&text, turn, tables.stores, tables.lists);
+            turn += 1;
         }
     }
 }

@@ -33,7 +33,7 @@ const READ: [(&str, u8, u8, &str); 23] = [
 ];
 
 /// Texts that don't: the number and the place.
-const REFUSED: [(&str, u8, usize); 43] = [
+const REFUSED: [(&str, u8, usize); 44] = [
     ("any(a,)", 7, 6),
     ("any()", 14, 0),
     ("", 7, 0),
@@ -62,6 +62,7 @@ const REFUSED: [(&str, u8, usize); 43] = [
     ("older_than('1W')", 13, 11),
     ("older_than('1000000000 w')", 13, 11),
     ("older_than(' 1 ')", 13, 11),
+    ("older_than(6999999993d)", 13, 11),
     ("at_least(2)", 11, 10),
     ("at_least(2,)", 14, 0),
     ("at_least(2, ", 7, 12),
