@@ -2570,7 +2570,7 @@ def all_printings():
 
 def main():
     note('Made by { python3 tools/cases.py; compare/make-list; } > crates/replay/stdin')
-    note('Answers of document 01, printed by tools/cases.py')
+    note('Answers of the documents, printed by tools/cases.py')
     note('read TEXT BUFFER no NUMBER PLACE, or read TEXT BUFFER ok IMAGE; the text and the image in hex')
     for part in (sheet, orders, depths, word_cases, count_cases, duration_cases, week_cases, list_cases, chain_cases,
                  single_bytes, pairs, lengths, rooms, random_cases):

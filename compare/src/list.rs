@@ -1,9 +1,9 @@
 //! Prints cases of the program `replay` with the Rust's own answers: a sample of what `compare/run` compares, made by the same
 //! modules. `compare/make-list` builds and starts it. The port is neither called nor linked.
 //!
-//! Numbers, trees, decisions, verdicts and printed bytes are `policy.rs`'s, durations by document 01's rule. It has no places;
-//! those are found as `oracle.rs` says. What the Rust has no answer to (1, 2, 3 and 15 to 19) stays out. Of each call, part and
-//! answer an even sample is kept, of long lines fewer.
+//! Numbers, trees, decisions, verdicts and printed bytes are `policy.rs`'s, durations by the documents' rule (`reference.rs`). It
+//! has no places; those are found as `oracle.rs` says. What the Rust has no answer to (1, 2, 3 and 15 to 19) stays out. Of each
+//! call, part and answer an even sample is kept, of long lines fewer.
 #![forbid(unsafe_code)]
 
 mod bounds;

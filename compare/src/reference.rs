@@ -1,5 +1,5 @@
 //! The Rust's side: `policy.rs` as it stands, from APPENDFS_SRC, among the modules that it names. serde's traits are empty
-//! stand-ins, a store has a name and a mode only, and durations follow document 01 in jiff's stead.
+//! stand-ins, a store has a name and a mode only, and durations follow the documents' rule (`clock`, below) in jiff's stead.
 
 /// Stand-ins for the traits of serde that `policy.rs` implements; nothing here calls them.
 #[allow(dead_code)]
