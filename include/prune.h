@@ -20,7 +20,9 @@ extern "C" {
 
 /* Reads a rule's text into an image. Value: the image's length. Refusals: 1 to 15.
  * A duration is made of parts in w, d, h, m, s and ms, in this order, each at most once: 1 to 9 digits, then the unit. Blanks may
- * stand between parts and before a unit, and the duration is then quoted: older_than(2w), older_than("1w 12 h"). */
+ * stand between parts and before a unit, and the duration is then quoted: older_than(2w), older_than("1w 12 h").
+ * Where an expression is due, a quoted word names a store, whatever it spells: 'readable' is a store of that name, readable is not,
+ * and 'any'(a) is refused with 9 at the bracket. */
 uint64_t prune_read(const uint8_t *text, size_t text_len, uint8_t *image, size_t image_len);
 
 /* Decides on the rule of an image, for a table of stores, an age in milliseconds and a confirmed list. Value: 1 evict, 0 keep.

@@ -48,32 +48,32 @@ WORD = b'abcdefghijklmnopqrstuvwxyzABCDEFGHIJKLMNOPQRSTUVWXYZ0123456789_-.'
 
 
 def tokens(text):
-    """The tokens of a text as (sort, place, word). Refuses with 4, 5 or 6, the leftmost."""
+    """The tokens of a text as (sort, place, word, quoted). Refuses with 4, 5 or 6, the leftmost."""
     found, at = [], 0
     while at < len(text):
         byte, start = text[at], at
         if byte in BLANKS:
             at += 1
         elif byte in b'(),':
-            found.append((chr(byte), start, b''))
+            found.append((chr(byte), start, b'', False))
             at += 1
         elif byte in b'&|':
             if text[at + 1:at + 2] != text[at:at + 1]:
                 raise Refused(HALF, start)
-            found.append((chr(byte), start, b''))
+            found.append((chr(byte), start, b'', False))
             at += 2
         elif byte in b'"\'':
             end = text.find(text[at:at + 1], at + 1)
             if end < 0:
                 raise Refused(QUOTE, start)
-            found.append(('word', start, text[at + 1:end]))
+            found.append(('word', start, text[at + 1:end], True))
             at = end + 1
         elif byte in WORD:
             while at < len(text) and text[at] in WORD:
                 at += 1
             word = text[start:at]
             sort = {b'and': '&', b'or': '|'}.get(word.lower(), 'word')
-            found.append((sort, start, word))
+            found.append((sort, start, word, False))
         else:
             raise Refused(STRAY, start)
     return found
@@ -184,7 +184,10 @@ class Parser:
             rule = self.parse_or()
             self.closed()
             return rule
-        _, place, word = self.take('word', NONE)
+        _, place, word, quoted = self.take('word', NONE)
+        # Job 2: "A quoted word, whatever follows, now names a store."
+        if quoted:
+            return [NAMED, word, []]
         if self.sort() == '(':
             self.opened()
             return self.parse_call(place, word.lower())
@@ -194,11 +197,11 @@ class Parser:
 
     def parse_call(self, place, name):
         if name == b'older_than':
-            _, at, word = self.take('word', MISSING)
+            _, at, word, _ = self.take('word', MISSING)
             self.closed()
             return [OLDER, duration(word, at), []]
         if name == b'readable':
-            _, at, word = self.take('word', MISSING)
+            _, at, word, _ = self.take('word', MISSING)
             k = count(word, at)
             self.closed()
             return [READABLE, k, []]
@@ -206,7 +209,7 @@ class Parser:
             raise Refused(UNKNOWN, place)
         k = 0
         if name == b'at_least':
-            _, at, word = self.take('word', MISSING)
+            _, at, word, _ = self.take('word', MISSING)
             k = count(word, at)
             self.take(',', MISSING)
         children = []
@@ -537,7 +540,7 @@ def sheet():
     no(b'readable(x', 12, 9)
     no(b'older_than(x', 8, 12)
     no(b') a &', 4, 4)
-    ok(b"'READABLE'", 1, 0, root=(READABLE, 1))
+    ok(b"'READABLE'", 1, 8, root=(NAMED, 8))
     ok(b'nas || vault', 3, 8, root=(ANY, 0))
     ok(b'at_least(0, nas)', 2, 3, root=(AT_LEAST, 0))
     ok(b'at_least(2, nas, vault)', 3, 8, root=(AT_LEAST, 2))
@@ -652,7 +655,7 @@ def depths():
 def word_cases():
     note('Words: signs and names, quotes, blanks')
     no(b'and(a)', 7, 0)
-    no(b"'and'(a)", 10, 0)
+    no(b"'and'(a)", 9, 5)
     ok(b'a.and.b', 1, 7)
     no(b'a (b)', 10, 0)
     no(b"'a\\'b'", 5, 5)
@@ -665,8 +668,8 @@ def word_cases():
     ok(b"'' || a || ''", 4, 1)
     no(b"''''", 9, 2)
     no(b"'''", 5, 2)
-    no(b"''()", 10, 0)
-    no(b"''(a)", 10, 0)
+    no(b"''()", 9, 2)
+    no(b"''(a)", 9, 2)
     ok(b'2', 1, 1)
     ok(b'30d', 1, 3)
     ok(b'any', 1, 3)
@@ -692,7 +695,7 @@ def word_cases():
     no(b'and', 7, 0)
     no(b'or', 7, 0)
     no(b'OR(a)', 7, 0)
-    no(b'"or"(a)', 10, 0)
+    no(b'"or"(a)', 9, 4)
     ok(b'an', 1, 2)
     ok(b'andy', 1, 4)
     ok(b'and_', 1, 4)
@@ -705,19 +708,18 @@ def word_cases():
     no(b'a andb', 9, 2)
     ok(b'readable', 1, 0, root=(READABLE, 1))
     ok(b'ReadAble', 1, 0, root=(READABLE, 1))
-    ok(b'"readable"', 1, 0, root=(READABLE, 1))
+    ok(b'"readable"', 1, 8, root=(NAMED, 8))
     ok(b"' readable'", 1, 9)
     ok(b'readable_', 1, 9)
     ok(b'readabl', 1, 7)
-    ok(b"'readable'('2')", 1, 0, root=(READABLE, 2))
+    ok(b"readable('2')", 1, 0, root=(READABLE, 2))
     ok(b'readable (2)', 1, 0, root=(READABLE, 2))
-    ok(b'"OLDER_THAN"\t(\n1d\r)', 1, 0, root=(OLDER, 86400000))
-    ok(b"'any'(a)", 2, 1, root=(ANY, 0))
+    ok(b'OLDER_THAN\t(\n1d\r)', 1, 0, root=(OLDER, 86400000))
     ok(b'ANY(a)', 2, 1, root=(ANY, 0))
     ok(b'OneOf(a,b)', 3, 2, root=(ANY, 0))
     ok(b'aLL(a)', 2, 1, root=(ALL, 0))
     ok(b'ALLOF(a,b)', 3, 2, root=(ALL, 0))
-    ok(b'"At_Least"(1,a)', 2, 1, root=(AT_LEAST, 1))
+    ok(b'At_Least(1,a)', 2, 1, root=(AT_LEAST, 1))
     ok(b' \t\n\x0b\x0c\ra \t\n\x0b\x0c\r', 1, 1)
     ok(b'a&&b||c&&d', 7, 4)
     ok(b'A.b-c_9', 1, 7)
@@ -743,6 +745,73 @@ def word_cases():
         case(b'a || "b' + one + b'c" || d')
         case(one + b'a &')
         case(b'any(' + one + b')')
+
+
+def quoted_cases():
+    note('A quoted word names a store (Job 2): readable, in any case of letters')
+    for word in (b"'readable'", b'"readable"', b"'READABLE'", b"'ReadAble'", b' \t"readablE"\n'):
+        ok(word, 1, 8, root=(NAMED, 8))
+        ok(b'(' + word + b')', 1, 8, root=(NAMED, 8))
+        ok(b'readable && ' + word, 3, 8, root=(ALL, 0))
+        ok(word + b'||readable', 3, 8, root=(ANY, 0))
+        ok(b'any(' + word + b',readable, ' + word + b')', 4, 16, root=(ANY, 0))
+        ok(b'at_least(1,' + word + b')', 2, 8, root=(AT_LEAST, 1))
+        no(word + b' x', 9, len(word) + 1)
+        no(word + b' &&', 7, len(word) + 3)
+    ok(b"'nas' && readable", 3, 3, root=(ALL, 0))
+    ok(b"nas && 'readable'", 3, 11, root=(ALL, 0))
+    ok(b"'readable' && readable(1)", 3, 8, root=(ALL, 0))
+    ok(b"'readable' and Readable or 'x'", 5, 9, root=(ANY, 0))
+    note('A bracket after a quoted word: 9 at the top, 8 inside brackets or arguments')
+    rests = [b'(a)', b'(', b'()', b'(1)', b' (1, a) || b', b'\t\n((a', b'(a,)', b'(x(', b'(1d)']
+    names = [b'any', b'ANY', b'all', b'oneof', b'AllOf', b'at_least', b'older_than', b'readable', b'READABLE', b'x', b'and', b'',
+             b'field tapes']
+    for index, name in enumerate(names):
+        word = b'"%s"' % name if index % 2 else b"'%s'" % name
+        ok(word, 1, len(name), root=(NAMED, len(name)))
+        for way, start in enumerate((b'', b'a || b && ', b'(', b'any(a, ', b'at_least(1,', b'older_than(1d) or(')):
+            rest = rests[(index + way) % len(rests)]
+            blanks = len(rest) - len(rest.lstrip())
+            no(start + word + rest, 9 if way < 2 else 8, len(start) + len(word) + blanks)
+    note('The same with a refusal that comes before')
+    for word in (b"'any'", b'"readable"', b"''"):
+        no(word + b'(a) &', 4, len(word) + 4)
+        no(word + b"('", 5, len(word) + 1)
+        no(word + b'(#', 6, len(word) + 1)
+        no(word + b'(\x80', 3, len(word) + 1)
+        no(b') ' + word + b'(', 7, 0)
+        no(b'any() ' + word + b'(', 14, 0)
+        no(b'b ' + word + b'(', 9, 2)
+        no(b'x(' + word + b'(', 10, 0)
+        no(b'readable(x) && ' + word + b'(', 12, 9)
+    no(b"'any'(a) || b", 9, 5)
+    no(b"'readable'(1)", 9, 10)
+    no(b"'readable'('2')", 9, 10)
+    no(b"(('a')(b))", 8, 6)
+    no(b"any('a'('b'))", 8, 7)
+    no(b"all(any('a'(b)))", 8, 11)
+    note('A quoted word before a bracket opens none: 8, and not 15')
+    no(b'(' * 64 + b"'a'(", 8, 67)
+    no(b'(' * 64 + b"'any'(b)", 8, 69)
+    no(b'(' * 64 + b"'a' (", 8, 68)
+    no(b'any(' * 64 + b'"a"(', 8, 259)
+    no(b'(' * 63 + b"'a'(", 8, 66)
+    no(b'(' * 64 + b'a(', 15, 65)
+    no(b'(' * 65 + b"'a'(", 15, 64)
+    ok(b'(' * 64 + b"'readable'" + b')' * 64, 1, 8)
+    note('Quoted counts and durations, and a bracket after them')
+    ok(b'readable("2")', 1, 0, root=(READABLE, 2))
+    ok(b"at_least('1','a')", 2, 1, root=(AT_LEAST, 1))
+    ok(b"older_than('30d')", 1, 0, root=(OLDER, 30 * 86400000))
+    no(b"readable('2'(", 8, 12)
+    no(b"readable('2'(a))", 8, 12)
+    no(b"at_least('2'(a))", 11, 12)
+    no(b"older_than('1d'(a))", 8, 15)
+    no(b"readable('readable')", 12, 9)
+    no(b"readable('any'(a))", 12, 9)
+    no(b"at_least('readable', a)", 12, 9)
+    no(b"older_than('readable')", 13, 11)
+    no(b"older_than('any'(a))", 8, 16)
 
 
 def count_cases():
@@ -899,7 +968,7 @@ def list_cases():
     no(b'at_least(2,a b', 8, 13)
     no(b'at_least(2,  )', 14, 0)
     no(b' at_least(2,)', 14, 1)
-    no(b"'at_least'(2,)", 14, 0)
+    no(b'AT_LEAST(2,)', 14, 0)
     no(b'readable()', 11, 9)
     no(b'readable(', 11, 9)
     no(b'readable(,', 11, 9)
@@ -918,7 +987,8 @@ def list_cases():
     for name in (b'any', b'all', b'oneof', b'allof'):
         size = len(name)
         no(name + b'()', 14, 0)
-        no(b' "' + name + b'" ( )', 14, 1)
+        no(b' ' + name + b' ( )', 14, 1)
+        no(b' "' + name + b'" ( )', 9, size + 4)
         no(name + b'(a', 8, size + 2)
         no(name + b'(a ', 8, size + 3)
         no(name + b'(a b)', 8, size + 3)
@@ -971,8 +1041,8 @@ def list_cases():
     no(b'allo(a)', 10, 0)
     no(b'al(a)', 10, 0)
     no(b'any_(a)', 10, 0)
-    no(b"'any '(a)", 10, 0)
-    no(b"' any'(a)", 10, 0)
+    no(b"'any '(a)", 9, 6)
+    no(b"' any'(a)", 9, 6)
     no(b'atleast(1,a)', 10, 0)
     no(b'at-least(1,a)', 10, 0)
     no(b'older-than(1d)', 10, 0)
@@ -1137,10 +1207,10 @@ NAMES = [b'a', b'nas', b'vault', b'b-1', b"'x y'", b'""', b'2', b'30d', b'Readab
 NUMBERS = [b'0', b'1', b'2', b'007', b"'+3'", b'18446744073709551615']
 SPANS = [b'0s', b'30d', b'1h30m', b'"1h 30m"', b"' 2w\t1 d 2\tms '", b'999999999w']
 SPACES = [b'', b'', b'', b' ', b' ', b'\n', b'\t ']
-CALLS = [b'any', b'all', b'oneof', b'allof', b'"All"', b'ANY']
+CALLS = [b'any', b'all', b'oneof', b'allof', b'All', b'ANY']
 FAULTS = [b'&', b'|', b'#', b'"', b"'", b'\x80', b'\x00', b'+', b'\x1f', b'\xff']
 MENDS = [b'(', b')', b',', b'&&', b'||', b'and', b'OR', b'a', b'x(', b'any(', b'any()', b'at_least(', b'readable(',
-         b'older_than(', b'1', b'1d', b"'q'", b'at_least(2', b'readable(x', b'older_than(1D)', b'readable(1x)', b'older_than(1s1m)']
+         b'older_than(', b'1', b'1d', b"'q'", b"'any'", b"'READABLE'", b'at_least(2', b'readable(x', b'older_than(1D)', b'readable(1x)', b'older_than(1s1m)']
 
 
 def drawn(draw, depth):
@@ -1151,7 +1221,7 @@ def drawn(draw, depth):
     if pick == 3:
         return [b'readable', b'(', draw.of(NUMBERS), b')']
     if pick == 4:
-        return [draw.of([b'older_than', b"'OLDER_than'"]), b'(', draw.of(SPANS), b')']
+        return [draw.of([b'older_than', b'OLDER_than']), b'(', draw.of(SPANS), b')']
     if pick == 5:
         return [b'('] + drawn(draw, depth - 1) + [b')']
     if pick < 9:
@@ -1286,8 +1356,15 @@ def decided_sheet():
         decision(of(b'older_than(30d) && readable(1)'), HOME, age, confirming(b'vault'), 'keep')
         decision(of(b'at_least(2, older_than(30d), vault)'), HOME, age, confirming(b'vault'), answer)
     decision(of(b'nas && readable(1)'), HOME, 0, confirming(b'nas'), 'evict')
-    decision(of(b"'READABLE'"), HOME, 0, confirming(b'nas'), 'evict')
-    decision(of(b"'READABLE'"), HOME, MOST, confirming(b'vault'), 'keep')
+    decision(of(b'READABLE'), HOME, 0, confirming(b'nas'), 'evict')
+    decision(of(b'READABLE'), HOME, MOST, confirming(b'vault'), 'keep')
+    note('A store called readable (Job 2)')
+    decision(of(b"'readable'"), table((0, b'readable')), 0, confirming(b'readable'), 'evict')
+    decision(of(b"'readable'"), table((0, b'readable')), MOST, NOTHING, 'keep')
+    decision(of(b"'readable'"), table((2, b'readable'), (0, b'nas')), MOST, confirming(b'nas'), 'keep')
+    decision(of(b'readable'), table((2, b'readable'), (0, b'nas')), MOST, confirming(b'readable'), 'keep')
+    decision(of(b"'readable'"), table((2, b'readable'), (0, b'nas')), MOST, confirming(b'readable'), 'evict')
+    decision(of(b"'any'"), table((0, b'any')), 0, confirming(b'any'), 'evict')
 
 
 def named_cases():
@@ -1847,7 +1924,7 @@ def verdict_sheet():
     both(b'at_least(2, older_than(30d), vault)', HOME, ARCHIVE)
     both(b'older_than(30d) && readable(1)', HOME, PASS)
     both(b'nas && readable(1)', HOME, PASS)
-    both(b"'READABLE'", HOME, PASS)
+    both(b'READABLE', HOME, PASS)
     both(b'older_than("1h 30m")', HOME, BARE)
     for vault in range(3):
         for cellar in range(3):
@@ -1862,6 +1939,18 @@ def verdict_sheet():
     for text, answer in ((b'any(a,)', 'no 7 6'), (b'any()', 'no 14 0'), (b'', 'no 7 0'), (b'older_than(1h 30m)', 'no 8 14'),
                          (b'readable(x', 'no 12 9'), (b'older_than(x', 'no 8 12'), (b') a &', 'no 4 4')):
         judged(text, HOME, answer)
+    note('A store called readable (Job 2)')
+    both(b"'READABLE'", HOME, 'no 20 0')
+    both(b"'readable'", stores_of(readable=0), PASS)
+    both(b"'readable'", stores_of(readable=1, nas=2), PASS)
+    both(b"'readable'", stores_of(readable=2), ARCHIVE)
+    both(b"'readable' && readable", stores_of(readable=2, nas=0), PASS)
+    both(b"'readable' || readable", stores_of(readable=2, nas=0), ARCHIVE)
+    both(b"'readable'", stores_of(READABLE=0), 'no 20 0')
+    both(b"'any' || \"readable\"", stores_of(any=0, readable=1), PASS)
+    judged(b"'readable'(1)", stores_of(readable=0), 'no 9 10')
+    judged(b"any('readable'(1))", stores_of(readable=0), 'no 8 14')
+    judged(b"'any'(nas)", HOME, 'no 9 5')
 
 
 def archive_cases():
@@ -2322,7 +2411,7 @@ def older(span):
 def printed_sheet():
     note('The proved sheet, and the rules that document 01 and the demands name')
     for text, stated in ((b'a && (b && c)', b'a && b && c'), (b'(a && b) && c', b'a && b && c'), (b'a && b || c', b'a && b || c'),
-                         (b'older_than("1h 30m")', b'older_than(1h30m)'), (b"'READABLE'", b'readable(1)'),
+                         (b'older_than("1h 30m")', b'older_than(1h30m)'), (b"'READABLE'", b'READABLE'), (b'READABLE', b'readable(1)'),
                          (b'nas || vault', b'nas || vault'), (b'at_least(0, nas)', b'at_least(0, nas)'),
                          (b'at_least(2,nas,vault)', b'at_least(2, nas, vault)'), (b'nas and Readable', b'nas && readable(1)'),
                          (b'OLDER_than(30d)&&readable(1)', b'older_than(30d) && readable(1)'),
@@ -2572,7 +2661,7 @@ def main():
     note('Made by { python3 tools/cases.py; compare/make-list; } > crates/replay/stdin')
     note('Answers of the documents, printed by tools/cases.py')
     note('read TEXT BUFFER no NUMBER PLACE, or read TEXT BUFFER ok IMAGE; the text and the image in hex')
-    for part in (sheet, orders, depths, word_cases, count_cases, duration_cases, week_cases, list_cases, chain_cases,
+    for part in (sheet, orders, depths, word_cases, quoted_cases, count_cases, duration_cases, week_cases, list_cases, chain_cases,
                  single_bytes, pairs, lengths, rooms, random_cases):
         part()
     # The deepest image has 2,048 nodes above each other.

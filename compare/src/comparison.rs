@@ -4,6 +4,7 @@ use crate::lent::{Input, Output};
 use crate::oracle::{self, List, No, Stores};
 use crate::port::Plant;
 use crate::prune::Refusal;
+use crate::quoted;
 use crate::remote::policy::PruneExpr;
 use crate::tally::Tally;
 use std::time::{Duration, Instant};
@@ -39,6 +40,8 @@ pub struct Comparison {
     parts: Vec<(&'static str, u64)>,
     answers: [[u64; 256]; 5],
     held: [u64; 256],
+    texts: u64,
+    left_out: u64,
     inputs: [Input; 3],
     output: Output,
     found: Vec<u8>,
@@ -57,6 +60,8 @@ impl Comparison {
             parts: vec![("nothing", 0)],
             answers: [[0; 256]; 5],
             held: [0; 256],
+            texts: 0,
+            left_out: 0,
             inputs: [Input::new(MOST), Input::new(MOST), Input::new(MOST)],
             output: Output::new(MOST),
             found: Vec::new(),
@@ -130,6 +135,7 @@ impl Comparison {
             let words: Vec<String> = (0..256).filter(|&number| found[number] > 0).map(many).collect();
             println!("  {:>10}  {call:<6}  {}", found.iter().sum::<u64>(), words.join(", "));
         }
+        println!("{} of {} texts held to document 02's Job 2, and not to the Rust", self.left_out, self.texts);
         println!("{:.1} seconds", self.start.elapsed().as_secs_f64());
         println!("{} compared, {} different", self.compared, self.different);
         self.different == 0
@@ -151,6 +157,16 @@ impl Tally for Comparison {
         self.parts[self.part].1 += 1;
         if !holds {
             self.report(what, inputs, note);
+        }
+    }
+
+    /// Counts a text, and whether it is one that Job 2 lists; then the Rust's answer must be another one than Job 2's.
+    fn given(&mut self, text: &[u8]) {
+        self.texts += 1;
+        if quoted::listed(text).is_some() {
+            self.left_out += 1;
+            let changed = oracle::read(text) != oracle::read_by_rust(text);
+            self.fact("a text that Job 2 lists", &[("text", text)], changed, "the Rust answers the same");
         }
     }
 

@@ -108,10 +108,10 @@ fn blanks(draw: &mut Draw, text: &mut String) {
     text.push_str(draw.of(&["", "", "", " ", " ", "\t", "\n ", "\r\n", "\x0b\x0c", "   "]));
 }
 
-/// A word, at times in quotes or in other letters.
+/// A function's name, at times in other letters, seldom in quotes, in which it names a store.
 fn word(draw: &mut Draw, spelled: &str, text: &mut String) {
     let folded: String = spelled.chars().map(|c| if draw.once_in(8) { c.to_ascii_uppercase() } else { c }).collect();
-    match draw.below(8) {
+    match draw.below(80) {
         0 => text.push_str(&format!("'{folded}'")),
         1 => text.push_str(&format!("\"{folded}\"")),
         _ => text.push_str(&folded),
@@ -206,7 +206,7 @@ fn joined(draw: &mut Draw, children: &[PruneExpr], functions: &[&str], signs: &[
 }
 
 /// Pieces that edits of a text put in.
-const PIECES: [&[u8]; 35] = [
+const PIECES: [&[u8]; 37] = [
     b"(",
     b")",
     b",",
@@ -230,6 +230,8 @@ const PIECES: [&[u8]; 35] = [
     b"w",
     b"+",
     b"readable",
+    b"'readable'",
+    b"'any'",
     b"older_than(",
     b"any(",
     b"all(",

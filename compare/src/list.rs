@@ -2,14 +2,16 @@
 //! modules. `compare/make-list` builds and starts it. The port is neither called nor linked.
 //!
 //! Numbers, trees, decisions, verdicts and printed bytes are `policy.rs`'s, durations by the documents' rule (`reference.rs`). It
-//! has no places; those are found as `oracle.rs` says. What the Rust has no answer to (1, 2, 3 and 15 to 19) stays out. Of each
-//! call, part and answer an even sample is kept, of long lines fewer.
+//! has no places; those are found as `oracle.rs` says. What the Rust has no answer to (1, 2, 3 and 15 to 19) stays out, and so do
+//! the texts that document 02's Job 2 lists, on which its answers are no longer due (`quoted.rs`). Of each call, part and answer an
+//! even sample is kept, of long lines fewer.
 #![forbid(unsafe_code)]
 
 mod bounds;
 mod draw;
 mod layout;
 mod oracle;
+mod quoted;
 mod random;
 mod reference;
 mod sequences;
@@ -180,8 +182,14 @@ impl Tally for Lines {
         self.sound &= holds;
     }
 
-    /// Takes reading a text; the buffer is always the one that is just long enough.
+    /// Nothing is written down of a text by itself.
+    fn given(&mut self, _: &[u8]) {}
+
+    /// Takes reading a text that the Rust has the answer to; the buffer is always the one that is just long enough.
     fn read(&mut self, text: &[u8], _: usize, due: &Result<Vec<u8>, No>) {
+        if quoted::listed(text).is_some() {
+            return;
+        }
         let given = format!("{} 26628", hex(text));
         match due {
             Ok(image) => self.take(READ, 0, &given, &format!("ok {}", hex(image))),
@@ -209,8 +217,11 @@ impl Tally for Lines {
         self.verdict(CHECK, image, stores, oracle::check(rule, stores));
     }
 
-    /// Takes judging a text.
+    /// Takes judging a text that the Rust has the answer to.
     fn judge(&mut self, text: &[u8], rule: &Result<PruneExpr, No>, stores: &Stores) -> u8 {
+        if quoted::listed(text).is_some() {
+            return oracle::judge(rule, stores).map_or_else(|refusal| refusal.0, |()| 0);
+        }
         self.verdict(JUDGE, text, stores, oracle::judge(rule, stores))
     }
 }

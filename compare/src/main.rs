@@ -10,6 +10,7 @@ mod oracle;
 mod port;
 #[allow(unsafe_code)]
 mod prune;
+mod quoted;
 mod random;
 mod reference;
 mod sequences;

@@ -1,8 +1,10 @@
 //! The answers that are due: the Rust's own wherever it has one, document 01's rule where the text, the image or a table lies
-//! outside what the Rust knows. An error string becomes its number. The place of a parse refusal is found without a parser: the
-//! token that decides is the last of the shortest part of the text, cut after a token, on which the Rust gives the same error.
+//! outside what the Rust knows, document 02's on the texts that Job 2 lists (`quoted.rs`). An error string becomes its number. The
+//! place of a parse refusal is found without a parser: the token that decides is the last of the shortest part of the text, cut
+//! after a token, on which the Rust gives the same error.
 
 use crate::layout;
+use crate::quoted::{self, Listed};
 use crate::remote::config::{ConfiguredRemote, RemoteMode};
 use crate::remote::policy::{PruneContext, PruneExpr};
 use std::collections::HashSet;
@@ -50,10 +52,10 @@ fn number(error: &str) -> u8 {
 }
 
 /// A token's sort (its first byte, `w` for a word or a sign in letters), where it begins and where it ends.
-type Span = (u8, usize, usize);
+pub type Span = (u8, usize, usize);
 
 /// The tokens of a text, or the place of the leftmost fault.
-fn spans(text: &[u8]) -> Result<Vec<Span>, usize> {
+pub fn spans(text: &[u8]) -> Result<Vec<Span>, usize> {
     let is_word = |byte: &u8| byte.is_ascii_alphanumeric() || b"_-.".contains(byte);
     let (mut found, mut at) = (Vec::new(), 0);
     while at < text.len() {
@@ -106,8 +108,37 @@ fn deciding(text: &str, tokens: &[Span], error: &str) -> usize {
     high - 1
 }
 
-/// What a text reads as.
+/// What a text reads as: by document 02 where Job 2 lists it, else by the Rust.
 pub fn read(text: &[u8]) -> Result<PruneExpr, No> {
+    match quoted::listed(text) {
+        None => read_by_rust(text),
+        Some(Listed::Bracket(refusal)) => Err(refusal),
+        // The Rust reads the text with other names in their places.
+        Some(Listed::Names(places)) => {
+            let mut other = text.to_vec();
+            places.iter().for_each(|&place| other[place + 1] = if text[place + 1] == b'r' { 1 } else { 2 });
+            let mut rule = read_by_rust(&other);
+            rule.iter_mut().for_each(restore);
+            rule
+        }
+    }
+}
+
+/// Gives the names that `read` put others in place of back to a rule.
+fn restore(rule: &mut PruneExpr) {
+    match rule {
+        PruneExpr::Remote(name) if name.len() == 8 && name[1..].eq_ignore_ascii_case("eadable") => {
+            *name = name.replace('\x01', "r").replace('\x02', "R");
+        }
+        PruneExpr::AtLeast(_, children) | PruneExpr::All(children) | PruneExpr::Any(children) => {
+            children.iter_mut().for_each(restore);
+        }
+        _ => {}
+    }
+}
+
+/// What a text reads as by the Rust, and by document 01 where the Rust has no such answer.
+pub fn read_by_rust(text: &[u8]) -> Result<PruneExpr, No> {
     if text.len() > 2048 {
         return Err((2, 0));
     }

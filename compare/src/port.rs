@@ -3,6 +3,8 @@
 
 use crate::layout;
 use crate::prune::{self, Refusal, IMAGE_BYTES};
+use crate::quoted::{self, Listed};
+use std::borrow::Cow;
 
 /// The mistake that is planted.
 #[derive(Debug, Clone, Copy, PartialEq, Eq)]
@@ -27,11 +29,19 @@ pub enum Plant {
     Inside,
     /// A duration of seven days prints as `1w`.
     Weeks,
+    /// A quoted `readable` is readable(1).
+    Readable,
+    /// A quoted word before a bracket is a function.
+    Call,
+    /// A quoted count of a rule that is readable(k) is refused.
+    Count,
+    /// Where the text begins with a quoted word, `readable` is a name unquoted too.
+    Flag,
 }
 
 impl Plant {
     /// Each mistake and the name by which it is asked for.
-    pub const NAMES: [(&str, Self); 9] = [
+    pub const NAMES: [(&str, Self); 13] = [
         ("read", Plant::Read),
         ("decide", Plant::Decide),
         ("check", Plant::Check),
@@ -41,6 +51,10 @@ impl Plant {
         ("blank", Plant::Blank),
         ("inside", Plant::Inside),
         ("weeks", Plant::Weeks),
+        ("readable", Plant::Readable),
+        ("call", Plant::Call),
+        ("count", Plant::Count),
+        ("flag", Plant::Flag),
     ];
 
     /// The mistake of that name.
@@ -48,8 +62,23 @@ impl Plant {
         Self::NAMES.iter().find(|known| known.0 == name).map(|known| known.1)
     }
 
+    /// The text that a port with a mistake in quoted words takes the text for.
+    fn taken(self, text: &[u8]) -> Cow<'_, [u8]> {
+        let words = match self {
+            Plant::Readable | Plant::Call => quoted::listed(text),
+            Plant::Flag if text.starts_with(b"'") => return marked(text).into(),
+            _ => None,
+        };
+        match (self, words) {
+            (Plant::Readable, Some(Listed::Names(places))) => places.iter().fold(text.to_vec(), unmarked).into(),
+            (Plant::Call, Some(Listed::Bracket((_, bracket)))) => unmarked(text.to_vec(), &word_before(text, bracket)).into(),
+            _ => text.into(),
+        }
+    }
+
     /// Reads.
     pub fn read(self, text: &[u8], image: &mut [u8]) -> Result<usize, Refusal> {
+        let text = &*self.taken(text);
         match self {
             Plant::Blank if image.len() >= IMAGE_BYTES => {
                 if let Some(place) = spaced_duration(text) {
@@ -57,6 +86,11 @@ impl Plant {
                 }
             }
             Plant::Inside => return prune::read(&joined_ms(text), image),
+            Plant::Count if image.len() >= IMAGE_BYTES => {
+                if let Some(place) = quoted_count(text) {
+                    return Err(Refusal { number: 12, place });
+                }
+            }
             _ => {}
         }
         let mut answer = prune::read(text, image);
@@ -92,6 +126,7 @@ impl Plant {
 
     /// Judges.
     pub fn judge(self, text: &[u8], stores: &[u8]) -> Result<(), Refusal> {
+        let text = &*self.taken(text);
         let answer = prune::judge(text, stores);
         if self == Plant::Check && answer.is_err_and(|refusal| refusal.number == 22) {
             let mut image = vec![0; IMAGE_BYTES];
@@ -122,6 +157,29 @@ impl Plant {
     }
 }
 
+/// Where the quoted word before that place begins.
+fn word_before(text: &[u8], place: usize) -> usize {
+    let close = text[..place].iter().rposition(|byte| b"'\"".contains(byte)).unwrap();
+    text[..close].iter().rposition(|&byte| byte == text[close]).unwrap()
+}
+
+/// The text with blanks in place of the marks of the quoted word at that place.
+fn unmarked(mut text: Vec<u8>, &place: &usize) -> Vec<u8> {
+    let (mark, start) = (text[place], place + 1);
+    let end = start + text[start..].iter().position(|&byte| byte == mark).unwrap();
+    text[place] = b' ';
+    text[end] = b' ';
+    text
+}
+
+/// The text with marks round a `readable` that ends it.
+fn marked(text: &[u8]) -> Vec<u8> {
+    match text.strip_suffix(b" readable") {
+        Some(start) => [start, b" 'readable'"].concat(),
+        None => text.to_vec(),
+    }
+}
+
 /// Whether a byte is a blank: 9 to 13 or 32.
 fn is_blank(byte: u8) -> bool {
     matches!(byte, 9..=13 | 32)
@@ -132,6 +190,15 @@ fn weeks(text: &[u8]) -> u64 {
     let Some(unit) = text.iter().position(|&byte| byte == b'w') else { return 0 };
     let digits = text[..unit].iter().rev().skip_while(|&&byte| is_blank(byte)).take_while(|byte| byte.is_ascii_digit());
     digits.zip(0..).map(|(digit, power)| u64::from(digit - b'0') * 10_u64.pow(power)).sum()
+}
+
+/// Where the word begins in a text that reads as readable(k), with the count in quotes.
+fn quoted_count(text: &[u8]) -> Option<u32> {
+    let mut image = vec![0; IMAGE_BYTES];
+    if prune::read(text, &mut image) != Ok(16) || image[4] != 2 {
+        return None;
+    }
+    text.iter().position(|byte| b"'\"".contains(byte)).map(|place| place as u32)
 }
 
 /// Where the word begins in a text that reads as one duration, in quotes, with a blank between digits and a unit.

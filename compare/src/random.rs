@@ -164,6 +164,7 @@ fn tables(tally: &mut dyn Tally, draw: &mut Draw) {
                 let Some(image) = layout::encode(&rule) else { continue };
                 tally.check(&image, Some(&rule), &stores);
                 let text = rule.to_string();
+                tally.given(text.as_bytes());
                 tally.judge(text.as_bytes(), &oracle::read(text.as_bytes()), &stores);
                 for age in tally::ages(&rule) {
                     tally.decide(&image, Some(&rule), &stores, age, &list);

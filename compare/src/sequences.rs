@@ -29,7 +29,7 @@ const TOKENS: [&str; 19] = [
 
 /// Tokens that stand in sequences up to one less than the full length. Long ones and a foreign byte, made below, reach 2, 3
 /// and 15 in sequences up to two less.
-const MORE: [&str; 5] = ["'1w 2 ms'", "'+1'", "\"", "|", "x."];
+const MORE: [&str; 7] = ["'1w 2 ms'", "'+1'", "\"", "|", "x.", "'Readable'", "\"any\""];
 
 /// Calls up to their bracket or comma, whose sequences go one token further.
 const CALLS: [&str; 9] = ["any(", "ALL(", "at_least(2,", "(", ")", ",", "&&", "||", "a"];
@@ -60,7 +60,7 @@ pub fn fixed() -> (Vec<Stores>, Vec<List>) {
         &[],
         &[(0, "a")],
         &[(2, "a")],
-        &[(0, "nas"), (2, "a"), (1, "2"), (2, "1d"), (0, ""), (2, "OR")],
+        &[(0, "nas"), (2, "a"), (1, "2"), (2, "1d"), (0, ""), (2, "OR"), (0, "Readable")],
         &[(2, "a"), (2, ""), (2, "2"), (2, "older_than"), (0, "any"), (2, "ALL"), (2, "at_least"), (1, "b")],
         &[(0, "a"), (1, "b"), (0, "a")],
         &[

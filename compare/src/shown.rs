@@ -132,6 +132,7 @@ fn shown(tally: &mut Comparison, image: &[u8], rule: &PruneExpr, table: &Modes, 
 
 /// Holds judge on a text to the decisions, for every table.
 fn hold(tally: &mut Comparison, text: &str, tables: &[Modes], lists: &[List]) {
+    tally.given(text.as_bytes());
     let read: Result<PruneExpr, No> = oracle::read(text.as_bytes());
     let Ok(rule) = &read else {
         for table in tables {

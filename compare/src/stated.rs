@@ -1,18 +1,25 @@
-//! The answers that document 01, document 02's Job 1 and the design's list of traps state themselves, and some that follow from
-//! one sentence of theirs. The answers that the comparison holds the port to, the Rust's among them, must be these.
+//! The answers that document 01, document 02's Jobs 1 and 2 and the design's list of traps state themselves, and some that follow
+//! from one sentence of theirs. The answers that the comparison holds the port to, the Rust's among them, must be these.
 
 use crate::layout;
 use crate::oracle::{self, List, Stores};
 use crate::tally::Tally;
 
 /// Texts that read: the numbers of nodes and of name bytes, and what they print as.
-const READ: [(&str, u8, u8, &str); 23] = [
+const READ: [(&str, u8, u8, &str); 30] = [
     ("nas && readable(1)", 3, 3, "nas && readable(1)"),
     ("a && b || c", 5, 3, "a && b || c"),
     ("a && (b && c)", 5, 3, "a && b && c"),
     ("(a && b) && c", 4, 3, "a && b && c"),
     ("older_than(\"1h 30m\")", 1, 0, "older_than(1h30m)"),
-    ("'READABLE'", 1, 0, "readable(1)"),
+    ("'READABLE'", 1, 8, "READABLE"),
+    ("\"Readable\"", 1, 8, "Readable"),
+    ("readable && 'readable'", 3, 8, "readable(1) && readable"),
+    ("'nas' && readable", 3, 3, "nas && readable(1)"),
+    ("any('any', 'readable')", 3, 11, "any || readable"),
+    ("'and'", 1, 3, "and"),
+    ("readable('2')", 1, 0, "readable(2)"),
+    ("at_least(\"1\", a)", 2, 1, "at_least(1, a)"),
     ("any(a,b) || c", 4, 3, "a || b || c"),
     ("c || any(a,b)", 5, 3, "c || a || b"),
     ("at_least(1,a) || b", 4, 2, "at_least(1, a) || b"),
@@ -33,7 +40,7 @@ const READ: [(&str, u8, u8, &str); 23] = [
 ];
 
 /// Texts that don't: the number and the place.
-const REFUSED: [(&str, u8, usize); 44] = [
+const REFUSED: [(&str, u8, usize); 58] = [
     ("any(a,)", 7, 6),
     ("any()", 14, 0),
     ("", 7, 0),
@@ -49,7 +56,21 @@ const REFUSED: [(&str, u8, usize); 44] = [
     ("a'b'", 9, 1),
     ("any(a,any())", 14, 6),
     ("and(a)", 7, 0),
-    ("'and'(a)", 10, 0),
+    ("'and'(a)", 9, 5),
+    ("'any'(a)", 9, 5),
+    ("'any'(a) || b", 9, 5),
+    ("'readable'(1)", 9, 10),
+    ("''(", 9, 2),
+    ("('any'(a))", 8, 6),
+    ("any('any'(a))", 8, 9),
+    ("at_least(1, 'x' (a))", 8, 16),
+    ("readable('2'(", 8, 12),
+    ("at_least('2'(a))", 11, 12),
+    ("'any'(a) &", 4, 9),
+    (") 'any'(a)", 7, 0),
+    ("'a' b 'any'(a)", 9, 4),
+    ("(((((((((((((((((((((((((((((((((((((((((((((((((((((((((((((((('a'(", 8, 67),
+    ("((((((((((((((((((((((((((((((((((((((((((((((((((((((((((((((((a(", 15, 65),
     ("a (b)", 10, 0),
     ("older_than(1mms)", 13, 11),
     ("older_than('1m s')", 13, 11),

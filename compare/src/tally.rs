@@ -12,6 +12,9 @@ pub trait Tally {
     /// Something that must hold; `what` and `note` say what it is, the inputs what it is about.
     fn fact(&mut self, what: &str, inputs: &[(&str, &[u8])], holds: bool, note: &str);
 
+    /// A text that is to be read and judged.
+    fn given(&mut self, text: &[u8]);
+
     /// A text to be read into a buffer of that length; due is its image or a refusal.
     fn read(&mut self, text: &[u8], room: usize, due: &Result<Vec<u8>, No>);
 
@@ -30,6 +33,7 @@ pub trait Tally {
     /// Everything that a text leads to: reading, judging and, where it reads, checking, printing and a decision.
     /// `turn` chooses buffers and tables.
     fn text(&mut self, text: &[u8], turn: u64, tables: &[Stores], lists: &[List]) {
+        self.given(text);
         let rule = oracle::read(text);
         let due = rule.as_ref().map_err(|refusal| *refusal).and_then(|rule| layout::encode(rule).ok_or((0, 0)));
         let rooms = [26_628, 26_628, 26_629, 26_628, 30_000, 26_628, 65_536, 26_660];

@@ -137,7 +137,8 @@ atLeastHead s place ts =
     valued (countOf w) badCount p (λ k.
     afterComma (after commaSign us) (firstPlace us) (λ vs. aList (atLeast k) place vs)))
 
--- "A word followed by `(` is a function, quoted or not, any case: `older_than`, `readable`, `oneof`/`any`, `allof`/`all`, `at_least`."
+-- "A word followed by `(` is a function, .. any case: `older_than`, `readable`, `oneof`/`any`, `allof`/`all`, `at_least`."; since
+-- Job 2 an unquoted one
 unfoldable pub functionOf : List ℕ → Function
 functionOf w =
     cond (equalIgnoringCase w (bytes "older_than")) OlderThan
@@ -157,7 +158,7 @@ callHead s place All ts = aList all place ts
 callHead s place AtLeast ts = atLeastHead s place ts
 callHead s place Unknown ts = refuse unknownFunction place
 
--- "Otherwise `readable`, any case and quoted too, is readable(1), and another word names a store."
+-- "Otherwise `readable`, any case .., is readable(1), and another word names a store."; since Job 2 an unquoted one
 unfoldable pub bareLeaf : List ℕ → Leaf
 bareLeaf w = cond (equalIgnoringCase w (bytes "readable")) (readable 1) (named w)
 
@@ -165,13 +166,18 @@ bareLeaf w = cond (equalIgnoringCase w (bytes "readable")) (readable 1) (named w
 abbrev pub opened : ℕ → ℕ → Head → Head
 opened d p h = cond (ltb d 64) h (refuse tooDeep p)
 
--- a word at `place`; "After the bracket come 15, then 10."
-abbrev pub wordHead : List ℕ → ℕ → ℕ → List ℕ → List Token → Rest → Head
-wordHead s d place w ts missing = aLeaf (bareLeaf w) ts
-wordHead s d place w ts (rest us) = opened d (firstPlace ts) (callHead s place (functionOf w) us)
+-- an unquoted word at `place`; "After the bracket come 15, then 10."
+abbrev pub bareHead : List ℕ → ℕ → ℕ → List ℕ → List Token → Rest → Head
+bareHead s d place w ts missing = aLeaf (bareLeaf w) ts
+bareHead s d place w ts (rest us) = opened d (firstPlace ts) (callHead s place (functionOf w) us)
+
+-- a word, quoted or not; Job 2: "A quoted word, whatever follows, now names a store."
+abbrev pub wordHead : List ℕ → ℕ → ℕ → List ℕ → Bool → List Token → Head
+wordHead s d place w true ts = aLeaf (named w) ts
+wordHead s d place w false ts = bareHead s d place w ts (after openSign ts)
 
 abbrev pub headBy : List ℕ → ℕ → Token → List Token → Head
-headBy s d (Word p a b q n) ts = wordHead s d p (part s a b) ts (after openSign ts)
+headBy s d (Word p a b q n) ts = wordHead s d p (part s a b) q ts
 headBy s d (Open p n) ts = opened d p (aGroup ts)
 headBy s d (End p) ts = refuse noExpression p
 headBy s d (Close p n) ts = refuse noExpression p

@@ -6,6 +6,8 @@ use mathlib.Core.Path.{_≡_, refl, sym, ap, _∙_}
 use mathlib.Core.Bool.{Bool, true, false, cond}
 use mathlib.Core.List.{List, [], _∷_}
 use native.Mathlib.Omega.{arith}
+use borrow.Author.Tests.{lt-ltb, le-ltb}
+use lib.Dec.{ltb}
 use lib.ListN.{length}
 use Rattle.ascii.specs.Text.{bytes, part}
 use Rattle.ascii.specs.Letters.{equalIgnoringCase}
@@ -101,6 +103,14 @@ module _ (s : List ℕ) (d at : ℕ) {t : Token} (e : tokenAt s at ≡ t) where
   pub head-next : {n : ℕ} → nextOf t ≡ To n → headIn s d (tokensFrom s at) ≡ headBy s d t (tokensFrom s n)
   unfolding headIn
   head-next h = ap (headIn s d) (tokens-next s at e h)
+
+-- ---- the test whether 64 brackets stand open: of d against a bound k
+module _ {d k : ℕ} where
+  pub too-deep : k ≤ d → 64 ≤ k → ltb d 64 ≡ false
+  too-deep many bound = le-ltb d 64 (omega arith)
+
+  pub not-deep : d < k → k ≤ 64 → ltb d 64 ≡ true
+  not-deep few bound = lt-ltb d 64 (omega arith)
 
 -- ---- what a test or a reading of another value says of this one
 pub told : {A B : Type 0} (f : A → B) {a b : A} {r q : B} → a ≡ b → r ≡ f a → r ≡ q → f b ≡ q

@@ -54,7 +54,7 @@ use Rattle.grammar.specs.Grammar.{
   callHead,
   bareLeaf,
   opened,
-  wordHead,
+  bareHead,
   headIn,
   chain,
   leftRules,
@@ -212,14 +212,18 @@ module _ (s : List ℕ) (ts : List Token) where
     call-begun place AtLeast = at-least-begun place
     call-begun place Unknown = omega arith
 
-  -- a word alone
+  -- a name
+  name-made : (us : List Token) (a b : ℕ) → Taken ts us 1 (b - a) → Begun s ts (aLeaf (named (part s a b)) us)
+  name-made us a b t = record { taken = omega (arith, part-short s a b); ascii = part-ascii s a b; small = λ i. omega (arith, part-short s a b) }
+
+  -- an unquoted word alone
   bare-made : (us : List Token) (a b : ℕ) → Taken ts us 1 (b - a) → Begun s ts (aLeaf (bareLeaf (part s a b)) us)
   unfolding bareLeaf
   bare-made us a b t = go (equalIgnoringCase (part s a b) (bytes "readable"))
     where
       go : (v : Bool) → Begun s ts (aLeaf (cond v (readable 1) (named (part s a b))) us)
       go true = number-made (omega arith) (omega arith)
-      go false = record { taken = omega (arith, part-short s a b); ascii = part-ascii s a b; small = λ i. omega (arith, part-short s a b) }
+      go false = name-made us a b t
 
 pub head-begun : (s : List ℕ) (d : ℕ) (ts : List Token) → Begun s ts (headIn s d ts)
 unfolding headIn
@@ -230,9 +234,10 @@ head-begun s d (Close p n ∷ us) = omega arith
 head-begun s d (Comma p n ∷ us) = omega arith
 head-begun s d (And p n ∷ us) = omega arith
 head-begun s d (Or p n ∷ us) = omega arith
-head-begun s d (Word p a b q n ∷ us) =
-    let ts = Word p a b q n ∷ us in
-    by-after (λ r. Begun s ts (wordHead s d p (part s a b) us r)) openSign us (omega arith)
+head-begun s d (Word p a b true n ∷ us) = name-made s (Word p a b true n ∷ us) us a b (omega arith)
+head-begun s d (Word p a b false n ∷ us) =
+    let ts = Word p a b false n ∷ us in
+    by-after (λ r. Begun s ts (bareHead s d p (part s a b) us r)) openSign us (omega arith)
     (bare-made s ts us a b (omega arith))
     (λ vs t. opened-begun s ts d _ _ (call-begun s ts vs (omega arith) p (functionOf (part s a b))))
 head-begun s d (Fault f ∷ us) = omega arith

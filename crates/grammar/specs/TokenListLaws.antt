@@ -71,8 +71,8 @@ module _ (s : List ℕ) (at : ℕ) {p a b n : ℕ} where
   unfolding dueIn nextOf
   word-due e = ap (dueIn s) (tokens-next s at e refl)
 
-  -- where a word's part of the text lies
-  pub word-part : {q : _} → tokenAt s at ≡ Word p a b q n → (at ≤ a) × (a ≤ b) × (b ≤ n) × (n ≤ length s)
+  -- where a word and its part of the text lie
+  pub word-part : {q : _} → tokenAt s at ≡ Word p a b q n → (at ≤ p) × (p ≤ a) × (a ≤ b) × (b ≤ n) × (n ≤ length s)
   word-part e = let l = subst (Lexed (length s) at) e (lexed s at) in omega arith
 
 -- a sign stands there, and the text goes on at n

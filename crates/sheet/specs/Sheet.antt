@@ -9,7 +9,7 @@ use Rattle.ascii.specs.Text.{bytes, part, run, runEnd}
 use Rattle.ascii.specs.Letters.{lower, equalBy}
 use Rattle.classes.specs.Class.{classOf, ofClass}
 use Rattle.refusals.specs.declared.Refusal.{Refusal}
-use Rattle.refusals.specs.Refusals.{refusal, halfSign, openQuote, strayCharacter, noExpression, openBracket, trailingToken, unknownFunction, missingArgument, badCount, badDuration, emptyList, badStoreTable, twinName, unknownStore, unconfirmed, archiveOnly}
+use Rattle.refusals.specs.Refusals.{refusal, halfSign, openQuote, strayCharacter, noExpression, openBracket, trailingToken, unknownFunction, missingArgument, badCount, badDuration, emptyList, tooDeep, badStoreTable, twinName, unknownStore, unconfirmed, archiveOnly}
 use Rattle.words.specs.declared.Token.{Token}
 use Rattle.words.specs.declared.Token.the-variants.{End, Open, Close, Comma, And, Or, Word, Fault}
 use Rattle.words.specs.declared.Scanned.{Scanned}
@@ -140,6 +140,10 @@ noStores = 0 ∷ 0 ∷ 0 ∷ 0 ∷ []
 abbrev twins : List ℕ
 twins = 3 ∷ 0 ∷ 9 ∷ 0 ∷ 0 ∷ 2 ∷ 0 ∷ 3 ∷ 3 ∷ 3 ∷ bytes "nasnasnas"
 
+-- a store called readable (0)
+abbrev supplier : List ℕ
+supplier = 1 ∷ 0 ∷ 8 ∷ 0 ∷ 0 ∷ 8 ∷ bytes "readable"
+
 abbrev no : ℕ → ℕ → Verdict
 no n p = NotPassed (refusal n p)
 
@@ -214,7 +218,14 @@ rows =
     reads "older_than(30d) && readable(1)" (two all (leaf (olderThan 2_592_000_000)) (leaf (readable 1))) 3 ∷
     reads "older_than(\"1h 30m\")" (leaf (olderThan 5_400_000)) 1 ∷
     reads "older_than(\"1w 1d\")" (leaf (olderThan 691_200_000)) 1 ∷
-    reads "'READABLE'" (leaf (readable 1)) 1 ∷
+    reads "'READABLE'" (name "READABLE") 1 ∷
+    reads "readable && 'readable'" (two all (leaf (readable 1)) (name "readable")) 3 ∷
+    reads "'nas' || ReadAble" (two any (name "nas") (leaf (readable 1))) 3 ∷
+    reads "any('ANY', \"readable\")" (two any (name "ANY") (name "readable")) 3 ∷
+    reads "''" (name "") 1 ∷
+    reads "'and'" (name "and") 1 ∷
+    reads "readable('2')" (leaf (readable 2)) 1 ∷
+    reads "at_least(\"1\", a)" (one (atLeast 1) (name "a")) 2 ∷
     reads "at_least(2, nas, vault)" (two (atLeast 2) (name "nas") (name "vault")) 3 ∷
     refuses "any(a,)" noExpression 6 ∷
     refuses "any()" emptyList 0 ∷
@@ -228,7 +239,19 @@ rows =
     refuses "any(a,any())" emptyList 6 ∷
     refuses "any( " noExpression 5 ∷
     refuses "and(a)" noExpression 0 ∷
-    refuses "'and'(a)" unknownFunction 0 ∷
+    refuses "'and'(a)" trailingToken 5 ∷
+    refuses "'any'(a)" trailingToken 5 ∷
+    refuses "'any'(a) || b" trailingToken 5 ∷
+    refuses "'readable'(1)" trailingToken 10 ∷
+    refuses "''()" trailingToken 2 ∷
+    refuses "('any'(a))" openBracket 6 ∷
+    refuses "any(b, 'any'(a))" openBracket 12 ∷
+    refuses "at_least(1, \"x\" (a))" openBracket 16 ∷
+    refuses "(((((((((((((((((((((((((((((((((((((((((((((((((((((((((((((((('a'(" openBracket 67 ∷
+    refuses "((((((((((((((((((((((((((((((((((((((((((((((((((((((((((((((((a(" tooDeep 65 ∷
+    refuses "readable('2'(" openBracket 12 ∷
+    refuses "at_least('2'(a))" missingArgument 12 ∷
+    refuses "'any'(a) &" halfSign 9 ∷
     refuses "a (b)" unknownFunction 0 ∷
     refuses "at_least(2)" missingArgument 10 ∷
     refuses "at_least(2,)" emptyList 0 ∷
@@ -249,6 +272,9 @@ rows =
     judges home "nas &" (no halfSign 4) ∷
     judges archive "vault && cellar" (no archiveOnly 0) ∷
     judges archive "readable(1)" Pass ∷
+    judges supplier "'readable'" Pass ∷
+    judges supplier "'Readable'" (no unknownStore 0) ∷
+    judges home "'readable' || nas" (no unknownStore 0) ∷
     judges noStores "desk || older_than(1d)" Pass ∷
     judges twins "desk" (no twinName 1) ∷
     judges [] "desk" (no badStoreTable 0) ∷
@@ -260,6 +286,7 @@ rows =
     reprints "a || (b && (c || d))" "a || b && (c || d)" ∷
     reprints "at_least(2, nas, any(a, b), all(c, d))" "at_least(2, nas, a || b, c && d)" ∷
     reprints "READABLE && older_than('1h 30m')" "readable(1) && older_than(1h30m)" ∷
+    reprints "'READABLE' && READABLE" "READABLE && readable(1)" ∷
     reprints "older_than(2w) || older_than('30 d')" "older_than(14d) || older_than(30d)" ∷
     reprints "older_than(999999999w)" "older_than(6999999993d)" ∷
     prints (one all (name "a")) "a" ∷

@@ -54,7 +54,7 @@ use Rattle.parser.proofs.parse_primary.Kinds as parse-primary-kinds
 use Rattle.parser.proofs.+parse_and+parse_or+parse_primary.Lts-parse_primary as parse-primary-lts
 use Rattle.grammar.proofs.combinator_arg.Reads as combinator-arg-reads
 use Rattle.grammar.proofs.combinator_kind.Reads as combinator-kind-reads
-use Rattle.grammar.proofs.head_at.Reads as head-at-reads
+use Rattle.heads.proofs.head_at.Reads as head-at-reads
 use Rattle.grammar.proofs.test_arg.Reads as test-arg-reads
 use Rattle.grammar.proofs.test_kind.Reads as test-kind-reads
 use Rattle.parser.proofs.kept.Reads as kept-reads

@@ -1,14 +1,13 @@
--- `grammar::head_at` meets its contract: by the token that stands there. Assumes nothing.
+-- `heads::head_at` meets its contract: by the token that stands there. Assumes nothing.
 use mathlib.Core.Path.{refl, sym, _∙_}
 use native.Mathlib.Omega.{arith}
-use borrow.Author.Tests.{lt-ltb, le-ltb}
 use Rattle.words.specs.Token.{nextOf}
 use Rattle.grammar.specs.TokenListLaws.{word-part, steps}
-use Rattle.grammar.specs.HeadLaws.{begins-group, begins-refused, begins-within, head-next}
+use Rattle.grammar.specs.HeadLaws.{begins-group, begins-refused, begins-within, head-next, too-deep, not-deep}
 use Rattle.grammar.proofs.Tags.{no-primary}
 use borrow.Author.Needs.{needs}
-use Rattle.grammar.proofs.head_at.Statement.{statement}
-use Rattle.grammar.proofs.head_at.Tie as tie
+use Rattle.heads.proofs.head_at.Statement.{statement}
+use Rattle.heads.proofs.head_at.Tie as tie
 
 token-at-requires : tie.Need-token-at-requires
 token-at-requires c κs = search needs
@@ -33,7 +32,7 @@ unfolding nextOf
 returns c =
     let t = c .before .before .before in
     begins-refused (c .refuse .ensures) refl
-    (rw (head-next _ _ _ (sym (t .before .before .token-at .ensures) ∙ t .t2 .given .1) refl, le-ltb _ 64 (c .before .if1 .taken)))
+    (rw (head-next _ _ _ (sym (t .before .before .token-at .ensures) ∙ t .t2 .given .1) refl, too-deep (c .before .if1 .taken) (omega arith)))
 
 place-of-requires : tie.Need-place-of-requires
 place-of-requires c κs = search needs
@@ -56,7 +55,7 @@ returns-3 c =
     let t = c .before .before in
     let opening = sym (t .before .before .token-at .ensures) ∙ t .t2 .given .1 in
     let inside = steps _ _ opening refl in
-    begins-group (rw (head-next _ _ _ opening refl, lt-ltb _ 64 (c .if1 .left))) (omega arith)
+    begins-group (rw (head-next _ _ _ opening refl, not-deep (c .if1 .left) (omega arith))) (omega arith)
 
 returns-4 : tie.Need-returns-4
 returns-4 c =

@@ -1,18 +1,17 @@
--- `grammar::word_head` meets its contract: by whether a bracket follows the word. Assumes nothing.
+-- `heads::bare_head` meets its contract: by whether a bracket follows the word. Assumes nothing.
 use Prim.Native.Nat.{ℕ}
 use mathlib.Core.Path.{refl, ap, _∙_}
 use mathlib.Core.Bool.{Bool}
 use mathlib.Core.List.{List}
 use native.Mathlib.Omega.{arith}
-use borrow.Author.Tests.{lt-ltb, le-ltb}
 use Rattle.ascii.specs.Text.{bytes}
 use Rattle.ascii.specs.Letters.{equalIgnoringCase}
 use Rattle.grammar.specs.Grammar.{openSign, functionOf, bareLeaf}
 use Rattle.grammar.specs.BehindLaws.{test-off, test-on, test-place}
-use Rattle.grammar.specs.HeadLaws.{begins-name, begins-leaf, begins-refused, begins-within, told}
+use Rattle.grammar.specs.HeadLaws.{begins-name, begins-leaf, begins-refused, begins-within, told, too-deep, not-deep}
 use borrow.Author.Needs.{needs}
-use Rattle.grammar.proofs.word_head.Statement.{statement}
-use Rattle.grammar.proofs.word_head.Tie as tie
+use Rattle.heads.proofs.bare_head.Statement.{statement}
+use Rattle.heads.proofs.bare_head.Tie as tie
 
 -- the test of a word that stands alone
 abbrev is-readable : List ℕ → Bool
@@ -77,7 +76,7 @@ returns-3 c =
     begins-refused (c .refuse .ensures) refl
     (rw (
       (test-on _ _ openSign (b .bracket-at .ensures) (i .inside .given .1)) .sign,
-      le-ltb _ 64 (c .before .if2 .taken),
+      too-deep (c .before .if2 .taken) (omega arith),
       test-place _ _ openSign (b .bracket-at .ensures) (i .inside .given .1) (omega arith),
     ))
 
@@ -97,11 +96,11 @@ returns-4 c =
     let b = i .before .before in
     let opening = test-on _ _ openSign (b .bracket-at .ensures) (i .inside .given .1) in
     let inside = opening .bounds in
-    rw (opening .sign, lt-ltb _ 64 (d .if2 .left), ← c .before .function-of .ensures ∙ ap functionOf (b .before .word-of .ensures))
+    rw (opening .sign, not-deep (d .if2 .left) (omega arith), ← c .before .function-of .ensures ∙ ap functionOf (b .before .word-of .ensures))
     (begins-within (c .call-head .ensures) (omega arith) (omega arith) (omega arith))
 
-pub word-head-spec : {M : Type 1} → statement M
-word-head-spec =
+pub bare-head-spec : {M : Type 1} → statement M
+bare-head-spec =
     tie.close
     (tie.spec
     word-of-requires

@@ -1,15 +1,15 @@
--- `grammar::at_least_head` meets its contract: by the word that is due, its count and the comma behind it. Assumes nothing.
+-- `calls::at_least_head` meets its contract: by the word that is due, its count and the comma behind it. Assumes nothing.
 use mathlib.Core.Path.{refl, sym, _∙_}
 use native.Mathlib.Omega.{arith}
 use Rattle.words.specs.Token.{nextOf}
 use Rattle.numbers.specs.Count.{countOf}
 use Rattle.grammar.specs.Grammar.{commaSign, atLeastHead}
 use Rattle.grammar.specs.TokenListLaws.{first-place, after-on, word-due, word-part, steps}
 use Rattle.grammar.specs.HeadLaws.{begins-refused, begins-list, told}
 use Rattle.grammar.proofs.Tags.{no-word, no-sign}
 use borrow.Author.Needs.{needs}
-use Rattle.grammar.proofs.at_least_head.Statement.{statement}
-use Rattle.grammar.proofs.at_least_head.Tie as tie
+use Rattle.calls.proofs.at_least_head.Statement.{statement}
+use Rattle.calls.proofs.at_least_head.Tie as tie
 
 token-at-requires : tie.Need-token-at-requires
 token-at-requires c κs = search needs
@@ -39,8 +39,8 @@ word-of-requires c κs =
 parse-count-requires : tie.Need-parse-count-requires
 parse-count-requires c κs = search needs
 
-enum-known-count : tie.Need-enum-known-count
-enum-known-count c = search needs
+enum-known-least : tie.Need-enum-known-least
+enum-known-least c = search needs
 
 enum-told : tie.Need-enum-told
 enum-told c = search needs
@@ -82,7 +82,7 @@ returns-3 c =
     begins-refused (c .refuse3 .ensures) (c .before .place-of2 .ensures)
     (rw (
       word-due _ _ (sym (t .before .before .token-at .ensures) ∙ t .t .given .1),
-      told countOf (d .before .word-of .ensures) (d .parse-count .ensures) (n .count .given .1),
+      told countOf (d .before .word-of .ensures) (d .parse-count .ensures) (n .least .given .1),
       no-sign _ _ next commaSign tt (m .match3 .keys2),
       first-place _ _ (sym next),
     ))
@@ -101,7 +101,7 @@ returns-4 c =
     begins-list
     (rw (
       word-due _ _ word,
-      told countOf (d .before .word-of .ensures) (d .parse-count .ensures) (n .count .given .1),
+      told countOf (d .before .word-of .ensures) (d .parse-count .ensures) (n .least .given .1),
       after-on _ _ next refl commaSign refl,
     ))
     (omega arith)
@@ -117,7 +117,7 @@ at-least-head-spec =
     returns
     word-of-requires
     parse-count-requires
-    enum-known-count
+    enum-known-least
     enum-told
     refuse-requires-2
     returns-2

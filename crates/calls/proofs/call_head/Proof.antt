@@ -1,10 +1,10 @@
--- `grammar::call_head` meets its contract: each function as its own head has it. Assumes nothing.
+-- `calls::call_head` meets its contract: each function as its own head has it. Assumes nothing.
 use mathlib.Core.Path.{refl}
 use native.Mathlib.Omega.{arith}
 use Rattle.grammar.specs.HeadLaws.{begins-refused, begins-list}
 use borrow.Author.Needs.{needs}
-use Rattle.grammar.proofs.call_head.Statement.{statement}
-use Rattle.grammar.proofs.call_head.Tie as tie
+use Rattle.calls.proofs.call_head.Statement.{statement}
+use Rattle.calls.proofs.call_head.Tie as tie
 
 enum-told : tie.Need-enum-told
 enum-told c = search needs

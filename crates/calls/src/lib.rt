@@ -1,0 +1,143 @@
+// A function's call, from behind its bracket to its closing bracket or its list of arguments.
+ghost use mathlib.Core.Path.{_≡_};
+ghost use Prim.Native.Nat.{_≤_};
+ghost use lib.ListN.{length};
+ghost use Rattle.classes.specs.Class.{faults};
+ghost use Rattle.words.specs.Token.{tokensFrom};
+ghost use Rattle.grammar.specs.Grammar.{callHead, olderThanHead, readableHead, atLeastHead};
+ghost use Rattle.grammar.specs.Heads.{left, Begins};
+use grammar::Combinator;
+use grammar::Function;
+use grammar::Head;
+use grammar::Test;
+use grammar::refuse;
+use numbers::Parsed;
+use numbers::count::parse_count;
+use numbers::duration::parse_duration;
+use words::Token;
+use words::place_of;
+use words::token_at;
+use words::word_of;
+
+// `older_than(`: a word is due, then `)`, and then the word must be a duration.
+fn older_than_head(text: &[u8], at: usize, class: &[u8; 256]) -> Head
+    requires { ⌜ faults (now class) ≡ 0 ⌝ }
+    ensures { λ r. ⌜ Begins (now (text .entry)) at at (left (now (text .entry)) at) r (olderThanHead (now (text .entry)) (tokensFrom (now (text .entry)) at)) ⌝ }
+{
+    let t = token_at(text, at, class);
+    let Token::Word {
+        place,
+        start,
+        end,
+        quoted: _,
+        next,
+    } = t
+    else {
+        return refuse(refusals::MISSING_ARGUMENT, place_of(t));
+    };
+    let bracket = token_at(text, next, class);
+    let Token::Close {
+        place: _,
+        next: after,
+    } = bracket
+    else {
+        return refuse(refusals::OPEN_BRACKET, place_of(bracket));
+    };
+    match parse_duration(word_of(text, start, end), class) {
+        Parsed::Value(milliseconds) => Head::Leaf {
+            test: Test::OlderThan(milliseconds),
+            next: after,
+        },
+        Parsed::Invalid => refuse(refusals::BAD_DURATION, place),
+    }
+}
+
+// `readable(`: a word is due, which must be a count, then `)`.
+fn readable_head(text: &[u8], at: usize, class: &[u8; 256]) -> Head
+    requires { ⌜ faults (now class) ≡ 0 ⌝ }
+    ensures { λ r. ⌜ Begins (now (text .entry)) at at (left (now (text .entry)) at) r (readableHead (now (text .entry)) (tokensFrom (now (text .entry)) at)) ⌝ }
+{
+    let t = token_at(text, at, class);
+    let Token::Word {
+        place,
+        start,
+        end,
+        quoted: _,
+        next,
+    } = t
+    else {
+        return refuse(refusals::MISSING_ARGUMENT, place_of(t));
+    };
+    let Parsed::Value(count) = parse_count(word_of(text, start, end)) else {
+        return refuse(refusals::BAD_COUNT, place);
+    };
+    let shut = token_at(text, next, class);
+    let Token::Close {
+        place: _,
+        next: after,
+    } = shut
+    else {
+        return refuse(refusals::OPEN_BRACKET, place_of(shut));
+    };
+    Head::Leaf {
+        test: Test::Readable(count),
+        next: after,
+    }
+}
+
+// `at_least(`: a word is due, which must be a count, then a comma; its list follows.
+fn at_least_head(text: &[u8], place: usize, at: usize, class: &[u8; 256]) -> Head
+    requires { ⌜ faults (now class) ≡ 0 ⌝ }
+    ensures { λ r. ⌜ Begins (now (text .entry)) at at (left (now (text .entry)) at) r (atLeastHead (now (text .entry)) place (tokensFrom (now (text .entry)) at)) ⌝ }
+{
+    let t = token_at(text, at, class);
+    let Token::Word {
+        place: first,
+        start,
+        end,
+        quoted: _,
+        next,
+    } = t
+    else {
+        return refuse(refusals::MISSING_ARGUMENT, place_of(t));
+    };
+    let Parsed::Value(least) = parse_count(word_of(text, start, end)) else {
+        return refuse(refusals::BAD_COUNT, first);
+    };
+    let comma = token_at(text, next, class);
+    let Token::Comma {
+        place: _,
+        next: after,
+    } = comma
+    else {
+        return refuse(refusals::MISSING_ARGUMENT, place_of(comma));
+    };
+    Head::List {
+        combinator: Combinator::AtLeast(least),
+        place,
+        next: after,
+    }
+}
+
+// Behind a function's bracket; its word stands at `place`, and the text goes on at `at`.
+pub fn call_head(text: &[u8], place: usize, f: Function, at: usize, class: &[u8; 256]) -> Head
+    requires { ⌜ (faults (now class) ≡ 0) × (at ≤ length (now text)) ⌝ }
+    ensures { λ r. ⌜ Begins (now (text .entry)) at at (left (now (text .entry)) at) r (callHead (now (text .entry)) place f (tokensFrom (now (text .entry)) at)) ⌝ }
+{
+    match f {
+        Function::OlderThan => older_than_head(text, at, class),
+        Function::Readable => readable_head(text, at, class),
+        Function::Any => Head::List {
+            combinator: Combinator::Any,
+            place,
+            next: at,
+        },
+        Function::All => Head::List {
+            combinator: Combinator::All,
+            place,
+            next: at,
+        },
+        Function::AtLeast => at_least_head(text, place, at, class),
+        Function::Unknown => refuse(refusals::UNKNOWN_FUNCTION, place),
+    }
+}
