@@ -1,4 +1,4 @@
-// A function's call, from behind its bracket to its closing bracket or its list of arguments.
+// A function's call after its opening bracket: up to the closing one or to its list of arguments.
 ghost use mathlib.Core.Path.{_≡_};
 ghost use Prim.Native.Nat.{_≤_};
 ghost use lib.ListN.{length};

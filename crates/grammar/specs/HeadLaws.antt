@@ -1,5 +1,5 @@
--- Laws of how a primary begins: what an answer of the program keeps to, the head by the token that stands there, and the
--- function that a word names. Assumes nothing.
+-- Laws of how a primary begins: what an answer of the program keeps to, the head by the token that stands there, the test of
+-- the depth, and the function that a word names. Assumes nothing.
 use Prim.Native.Nat.{ℕ, _+_, _-_, _≤_, _<_}
 use Prim.Native.String.{String}
 use mathlib.Core.Path.{_≡_, refl, sym, ap, _∙_}
