@@ -21,8 +21,8 @@ extern "C" {
 /* Reads a rule's text into an image. Value: the image's length. Refusals: 1 to 15.
  * A duration is made of parts in w, d, h, m, s and ms, in this order, each at most once: 1 to 9 digits, then the unit. Blanks may
  * stand between parts and before a unit, and the duration is then quoted: older_than(2w), older_than("1w 12 h").
- * Where an expression is due, a quoted word names a store, whatever it spells: 'readable' is a store of that name, readable is not,
- * and 'any'(a) is refused with 9 at the bracket. */
+ * Where an expression is due, a quoted word names a store, whatever it spells and whatever follows: 'readable' is the store of that
+ * name, readable alone is readable(1), and 'any'(a) is refused at its bracket, with 9, or with 8 inside brackets or arguments. */
 uint64_t prune_read(const uint8_t *text, size_t text_len, uint8_t *image, size_t image_len);
 
 /* Decides on the rule of an image, for a table of stores, an age in milliseconds and a confirmed list. Value: 1 evict, 0 keep.
@@ -37,7 +37,8 @@ uint64_t prune_check(const uint8_t *image, size_t image_len, const uint8_t *stor
 uint64_t prune_judge(const uint8_t *text, size_t text_len, const uint8_t *stores, size_t stores_len);
 
 /* Prints the rule of an image. Value: the text's length. Refusals: 16, 1.
- * A duration is printed in days, hours, minutes, seconds and milliseconds, without blanks: two weeks as 14d. */
+ * A duration is printed in days, hours, minutes, seconds and milliseconds, without blanks: two weeks as 14d. A name is printed
+ * without quotes, so the text may read as another rule: 'readable' prints as readable. */
 uint64_t prune_print(const uint8_t *image, size_t image_len, uint8_t *text, size_t text_len);
 
 #ifdef __cplusplus

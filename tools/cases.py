@@ -1210,7 +1210,8 @@ SPACES = [b'', b'', b'', b' ', b' ', b'\n', b'\t ']
 CALLS = [b'any', b'all', b'oneof', b'allof', b'All', b'ANY']
 FAULTS = [b'&', b'|', b'#', b'"', b"'", b'\x80', b'\x00', b'+', b'\x1f', b'\xff']
 MENDS = [b'(', b')', b',', b'&&', b'||', b'and', b'OR', b'a', b'x(', b'any(', b'any()', b'at_least(', b'readable(',
-         b'older_than(', b'1', b'1d', b"'q'", b"'any'", b"'READABLE'", b'at_least(2', b'readable(x', b'older_than(1D)', b'readable(1x)', b'older_than(1s1m)']
+         b'older_than(', b'1', b'1d', b"'q'", b"'any'", b"'READABLE'", b'at_least(2', b'readable(x', b'older_than(1D)',
+         b'readable(1x)', b'older_than(1s1m)']
 
 
 def drawn(draw, depth):

@@ -212,6 +212,7 @@ fn rooms(tally: &mut dyn Tally) {
     let texts: [&[u8]; 8] =
         [b"a", b"", b"&", b"a &", b"\x80", b"nas && readable(1)", &[b' '; 2049], &filled("", "a||", "a", 2047)];
     for text in texts {
+        tally.given(text);
         let due = oracle::read(text).and_then(|rule| layout::encode(&rule).ok_or((0, 0)));
         for room in (0..60).chain(26_500..26_760).chain([16, 1000, 13_314, 32_768, 65_535, 65_536, 99_999]) {
             tally.read(text, room, &due);
@@ -283,6 +284,7 @@ fn tables(tally: &mut dyn Tally) {
             }
         }
     }
+    tally.given(b"readable");
     let (good, none) = (layout::table(&[(0, "a"), (2, "b")]), layout::table(&[]));
     for bytes in made {
         let (stores, list) = (Stores::of(bytes.clone()), List::of(bytes));

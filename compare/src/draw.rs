@@ -143,7 +143,8 @@ fn spelled(draw: &mut Draw, span: Duration) -> String {
     quoted + "'"
 }
 
-/// Writes a rule in one of its spellings: blanks, quotes, signs or functions, brackets that need not be.
+/// Writes a rule in one of its spellings: blanks, quotes, signs or functions, brackets that need not be. Where the name of a
+/// function is quoted, it is another rule or none.
 pub fn spell(draw: &mut Draw, rule: &PruneExpr, text: &mut String) {
     let brackets = usize::from(draw.once_in(6)) * (1 + draw.below(2));
     blanks(draw, text);

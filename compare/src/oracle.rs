@@ -113,27 +113,31 @@ pub fn read(text: &[u8]) -> Result<PruneExpr, No> {
     match quoted::listed(text) {
         None => read_by_rust(text),
         Some(Listed::Bracket(refusal)) => Err(refusal),
-        // The Rust reads the text with other names in their places.
+        // The Rust reads the text with other names in their places, which begin with bytes that the text lacks.
         Some(Listed::Names(places)) => {
+            let mut lacking = (1..128).filter(|byte| !text.contains(byte) && !b"'\"".contains(byte));
+            let firsts = [b'r', b'R'].map(|first| (lacking.next().expect("a byte that the text lacks"), first));
             let mut other = text.to_vec();
-            places.iter().for_each(|&place| other[place + 1] = if text[place + 1] == b'r' { 1 } else { 2 });
-            let mut rule = read_by_rust(&other);
-            rule.iter_mut().for_each(restore);
-            rule
+            for place in places {
+                other[place + 1] = firsts[usize::from(text[place + 1] == b'R')].0;
+            }
+            read_by_rust(&other).map(|rule| restored(rule, &firsts))
         }
     }
 }
 
-/// Gives the names that `read` put others in place of back to a rule.
-fn restore(rule: &mut PruneExpr) {
+/// The rule with the second byte of each pair in place of the first in its names.
+fn restored(rule: PruneExpr, pairs: &[(u8, u8)]) -> PruneExpr {
+    let each = |children: Vec<PruneExpr>| children.into_iter().map(|child| restored(child, pairs)).collect();
     match rule {
-        PruneExpr::Remote(name) if name.len() == 8 && name[1..].eq_ignore_ascii_case("eadable") => {
-            *name = name.replace('\x01', "r").replace('\x02', "R");
+        PruneExpr::Remote(name) => {
+            let change = |name: String, pair: &(u8, u8)| name.replace(char::from(pair.0), &char::from(pair.1).to_string());
+            PruneExpr::Remote(pairs.iter().fold(name, change))
         }
-        PruneExpr::AtLeast(_, children) | PruneExpr::All(children) | PruneExpr::Any(children) => {
-            children.iter_mut().for_each(restore);
-        }
-        _ => {}
+        PruneExpr::AtLeast(k, children) => PruneExpr::AtLeast(k, each(children)),
+        PruneExpr::All(children) => PruneExpr::All(each(children)),
+        PruneExpr::Any(children) => PruneExpr::Any(each(children)),
+        leaf => leaf,
     }
 }
 

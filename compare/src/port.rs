@@ -31,11 +31,11 @@ pub enum Plant {
     Weeks,
     /// A quoted `readable` is readable(1).
     Readable,
-    /// A quoted word before a bracket is a function.
+    /// The first quoted word before a bracket is read as if it had no marks.
     Call,
     /// A quoted count of a rule that is readable(k) is refused.
     Count,
-    /// Where the text begins with a quoted word, `readable` is a name unquoted too.
+    /// Where a text begins with `'` and ends with ` readable`, that last word is a name.
     Flag,
 }
 

@@ -21,7 +21,7 @@ enum Sort {
     Comma,
     Sign,
     Quoted,
-    Bare,
+    Unquoted,
 }
 
 /// What a call's name makes of what stands before its first expression.
@@ -65,7 +65,7 @@ fn call_of(name: &str) -> Option<Call> {
 }
 
 impl Walk<'_> {
-    /// The sort of the token so many tokens further on, if there is one.
+    /// The sort of a token, counted from where the walk is, if there is one.
     fn sort(&self, further: usize) -> Option<Sort> {
         let &(sort, start, end) = self.tokens.get(self.at + further)?;
         Some(match sort {
@@ -75,21 +75,21 @@ impl Walk<'_> {
             b'&' | b'|' => Sort::Sign,
             _ if matches!(self.text.as_bytes()[start], b'\'' | b'"') => Sort::Quoted,
             _ if ["and", "or"].iter().any(|sign| self.text[start..end].eq_ignore_ascii_case(sign)) => Sort::Sign,
-            _ => Sort::Bare,
+            _ => Sort::Unquoted,
         })
     }
 
-    /// The word so many tokens further on, without its marks, if that token is a word.
+    /// The word of a token, without its marks, if it is a word.
     fn word(&self, further: usize) -> Option<&str> {
         let &(_, start, end) = self.tokens.get(self.at + further)?;
         match self.sort(further)? {
             Sort::Quoted => Some(&self.text[start + 1..end - 1]),
-            Sort::Bare => Some(&self.text[start..end]),
+            Sort::Unquoted => Some(&self.text[start..end]),
             _ => None,
         }
     }
 
-    /// The place of the token so many tokens further on.
+    /// The place of a token.
     fn place(&self, further: usize) -> usize {
         self.tokens[self.at + further].1
     }
@@ -131,8 +131,8 @@ impl Walk<'_> {
                 self.at += 1;
                 Some(true)
             }
-            Sort::Bare if self.sort(1) == Some(Sort::Open) => self.call(),
-            Sort::Bare | Sort::Quoted => {
+            Sort::Unquoted if self.sort(1) == Some(Sort::Open) => self.call(),
+            Sort::Unquoted | Sort::Quoted => {
                 self.at += 1;
                 Some(false)
             }

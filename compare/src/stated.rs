@@ -131,6 +131,7 @@ pub fn all(tally: &mut dyn Tally, stores: &[Stores], lists: &[List]) {
     }
     let table = Stores::of(layout::table(&[(0, "nas"), (2, "vault"), (2, "cellar")]));
     for (text, number) in VERDICTS {
+        tally.given(text.as_bytes());
         let verdict = tally.judge(text.as_bytes(), &oracle::read(text.as_bytes()), &table);
         let note = format!("stated: {number}; judge answers {verdict}");
         tally.fact("stated", &[("text", text.as_bytes())], verdict == number, &note);

@@ -74,6 +74,7 @@ fn turned_images(tally: &mut dyn Tally) {
 /// Compares checking, judging and deciding with tables and lists with each byte at each value.
 fn turned_tables(tally: &mut dyn Tally) {
     let text = b"at_least(2, nas, vault, x, '', readable)";
+    tally.given(text);
     let read = oracle::read(text);
     let rule = read.as_ref().ok();
     let image = layout::encode(rule.unwrap()).unwrap();

@@ -119,7 +119,7 @@ fn at_least_head(text: &[u8], place: usize, at: usize, class: &[u8; 256]) -> Hea
     }
 }
 
-// Behind a function's bracket; its word stands at `place`, and the text goes on at `at`.
+// A function's call; its word is at `place`, and the position after its bracket is `at`.
 pub fn call_head(text: &[u8], place: usize, f: Function, at: usize, class: &[u8; 256]) -> Head
     requires { ⌜ (faults (now class) ≡ 0) × (at ≤ length (now text)) ⌝ }
     ensures { λ r. ⌜ Begins (now (text .entry)) at at (left (now (text .entry)) at) r (callHead (now (text .entry)) place f (tokensFrom (now (text .entry)) at)) ⌝ }

@@ -1,4 +1,4 @@
--- Expressions, as document 01 lays them down, over the list of placed tokens. Assumes nothing.
+-- Expressions, as document 01 and document 02's Job 2 lay them down, over the list of placed tokens. Assumes nothing.
 use Prim.Native.Nat.{ℕ, zero, suc, _+_}
 use mathlib.Core.Bool.{Bool, true, false, cond}
 use mathlib.Core.List.{List, [], _∷_}
@@ -138,7 +138,7 @@ atLeastHead s place ts =
     afterComma (after commaSign us) (firstPlace us) (λ vs. aList (atLeast k) place vs)))
 
 -- "A word followed by `(` is a function, .. any case: `older_than`, `readable`, `oneof`/`any`, `allof`/`all`, `at_least`."; since
--- Job 2 an unquoted one
+-- Job 2 this holds of unquoted words only
 unfoldable pub functionOf : List ℕ → Function
 functionOf w =
     cond (equalIgnoringCase w (bytes "older_than")) OlderThan
@@ -158,7 +158,7 @@ callHead s place All ts = aList all place ts
 callHead s place AtLeast ts = atLeastHead s place ts
 callHead s place Unknown ts = refuse unknownFunction place
 
--- "Otherwise `readable`, any case .., is readable(1), and another word names a store."; since Job 2 an unquoted one
+-- "Otherwise `readable`, any case .., is readable(1), and another word names a store."; since Job 2 of unquoted words only
 unfoldable pub bareLeaf : List ℕ → Leaf
 bareLeaf w = cond (equalIgnoringCase w (bytes "readable")) (readable 1) (named w)
 
@@ -167,14 +167,14 @@ abbrev pub opened : ℕ → ℕ → Head → Head
 opened d p h = cond (ltb d 64) h (refuse tooDeep p)
 
 -- an unquoted word at `place`; "After the bracket come 15, then 10."
-abbrev pub bareHead : List ℕ → ℕ → ℕ → List ℕ → List Token → Rest → Head
-bareHead s d place w ts missing = aLeaf (bareLeaf w) ts
-bareHead s d place w ts (rest us) = opened d (firstPlace ts) (callHead s place (functionOf w) us)
+abbrev pub unquotedHead : List ℕ → ℕ → ℕ → List ℕ → List Token → Rest → Head
+unquotedHead s d place w ts missing = aLeaf (bareLeaf w) ts
+unquotedHead s d place w ts (rest us) = opened d (firstPlace ts) (callHead s place (functionOf w) us)
 
 -- a word, quoted or not; Job 2: "A quoted word, whatever follows, now names a store."
 abbrev pub wordHead : List ℕ → ℕ → ℕ → List ℕ → Bool → List Token → Head
 wordHead s d place w true ts = aLeaf (named w) ts
-wordHead s d place w false ts = bareHead s d place w ts (after openSign ts)
+wordHead s d place w false ts = unquotedHead s d place w ts (after openSign ts)
 
 abbrev pub headBy : List ℕ → ℕ → Token → List Token → Head
 headBy s d (Word p a b q n) ts = wordHead s d p (part s a b) q ts

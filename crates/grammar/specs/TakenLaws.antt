@@ -54,7 +54,7 @@ use Rattle.grammar.specs.Grammar.{
   callHead,
   bareLeaf,
   opened,
-  bareHead,
+  unquotedHead,
   headIn,
   chain,
   leftRules,
@@ -237,7 +237,7 @@ head-begun s d (Or p n ∷ us) = omega arith
 head-begun s d (Word p a b true n ∷ us) = name-made s (Word p a b true n ∷ us) us a b (omega arith)
 head-begun s d (Word p a b false n ∷ us) =
     let ts = Word p a b false n ∷ us in
-    by-after (λ r. Begun s ts (bareHead s d p (part s a b) us r)) openSign us (omega arith)
+    by-after (λ r. Begun s ts (unquotedHead s d p (part s a b) us r)) openSign us (omega arith)
     (bare-made s ts us a b (omega arith))
     (λ vs t. opened-begun s ts d _ _ (call-begun s ts vs (omega arith) p (functionOf (part s a b))))
 head-begun s d (Fault f ∷ us) = omega arith

@@ -5,7 +5,7 @@ ghost use lib.ListN.{length};
 ghost use Rattle.ascii.specs.Text.{part};
 ghost use Rattle.classes.specs.Class.{faults};
 ghost use Rattle.words.specs.Token.{tokensFrom};
-ghost use Rattle.grammar.specs.Grammar.{headIn, wordHead, bareHead, after, openSign};
+ghost use Rattle.grammar.specs.Grammar.{headIn, wordHead, unquotedHead, after, openSign};
 ghost use Rattle.grammar.specs.Heads.{left, Begins};
 use ascii::eq_ignore_ascii_case;
 use calls::call_head;
@@ -21,7 +21,7 @@ use words::token_at;
 use words::word_of;
 
 // An unquoted word that begins a primary: a function where a bracket follows it, else a leaf.
-fn bare_head(
+fn unquoted_head(
     text: &[u8],
     depth: usize,
     place: usize,
@@ -31,7 +31,7 @@ fn bare_head(
     class: &[u8; 256],
 ) -> Head
     requires { ⌜ (faults (now class) ≡ 0) × ((start ≤ end) × ((end ≤ next) × (next ≤ length (now text)))) ⌝ }
-    ensures { λ r. ⌜ Begins (now (text .entry)) start next (left (now (text .entry)) next) r (bareHead (now (text .entry)) depth place (part (now (text .entry)) start end) (tokensFrom (now (text .entry)) next) (after openSign (tokensFrom (now (text .entry)) next))) ⌝ }
+    ensures { λ r. ⌜ Begins (now (text .entry)) start next (left (now (text .entry)) next) r (unquotedHead (now (text .entry)) depth place (part (now (text .entry)) start end) (tokensFrom (now (text .entry)) next) (after openSign (tokensFrom (now (text .entry)) next))) ⌝ }
 {
     let word = word_of(text, start, end);
     let Next::To(inside) = bracket_at(text, next, classes::OPEN, class) else {
@@ -66,7 +66,7 @@ fn word_head(
     if quoted {
         return Head::Name { start, end, next };
     }
-    bare_head(text, depth, place, start, end, next, class)
+    unquoted_head(text, depth, place, start, end, next, class)
 }
 
 // How the primary at a position begins, where `depth` brackets stand open.

@@ -9,11 +9,11 @@ use Rattle.heads.proofs.word_head.Tie as tie
 returns : tie.Need-returns
 returns c = rw (c .if1 .taken) (begins-name refl (omega arith) (omega arith))
 
-bare-head-requires : tie.Need-bare-head-requires
-bare-head-requires c κs = search needs
+unquoted-head-requires : tie.Need-unquoted-head-requires
+unquoted-head-requires c κs = search needs
 
 returns-2 : tie.Need-returns-2
-returns-2 c = rw (c .before .if1 .left) (c .bare-head .ensures)
+returns-2 c = rw (c .before .if1 .left) (c .unquoted-head .ensures)
 
 pub word-head-spec : {M : Type 1} → statement M
-word-head-spec = tie.close (tie.spec returns bare-head-requires returns-2)
+word-head-spec = tie.close (tie.spec returns unquoted-head-requires returns-2)

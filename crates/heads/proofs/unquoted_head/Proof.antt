@@ -1,4 +1,4 @@
--- `heads::bare_head` meets its contract: by whether a bracket follows the word. Assumes nothing.
+-- `heads::unquoted_head` meets its contract: by whether a bracket follows the word. Assumes nothing.
 use Prim.Native.Nat.{ℕ}
 use mathlib.Core.Path.{refl, ap, _∙_}
 use mathlib.Core.Bool.{Bool}
@@ -10,8 +10,8 @@ use Rattle.grammar.specs.Grammar.{openSign, functionOf, bareLeaf}
 use Rattle.grammar.specs.BehindLaws.{test-off, test-on, test-place}
 use Rattle.grammar.specs.HeadLaws.{begins-name, begins-leaf, begins-refused, begins-within, told, too-deep, not-deep}
 use borrow.Author.Needs.{needs}
-use Rattle.heads.proofs.bare_head.Statement.{statement}
-use Rattle.heads.proofs.bare_head.Tie as tie
+use Rattle.heads.proofs.unquoted_head.Statement.{statement}
+use Rattle.heads.proofs.unquoted_head.Tie as tie
 
 -- the test of a word that stands alone
 abbrev is-readable : List ℕ → Bool
@@ -99,8 +99,8 @@ returns-4 c =
     rw (opening .sign, not-deep (d .if2 .left) (omega arith), ← c .before .function-of .ensures ∙ ap functionOf (b .before .word-of .ensures))
     (begins-within (c .call-head .ensures) (omega arith) (omega arith) (omega arith))
 
-pub bare-head-spec : {M : Type 1} → statement M
-bare-head-spec =
+pub unquoted-head-spec : {M : Type 1} → statement M
+unquoted-head-spec =
     tie.close
     (tie.spec
     word-of-requires
