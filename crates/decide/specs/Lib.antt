@@ -1,4 +1,6 @@
 pub mod Evict
+pub mod By
+pub mod ByLaws
 pub mod JoinLaws
 pub mod MonotoneLaws
 pub mod Decide

@@ -22,6 +22,12 @@ pub record Subtree (f : ℕ → Cell) (from k : ℕ) : Type 0 where
 unfoldable pub NamesInside : List ℕ → ℕ → Type 0
 NamesInside s n = (i : ℕ) → i < n → nodeAt s n i .kind ≡ 0 → 4 + 12 * n + nodeAt s n i .arg / 65536 + nodeAt s n i .arg % 65536 ≤ length s
 
+-- n nodes, of which the k from `from` on are a rule's, whatever its leaves are
+pub record Row (s : List ℕ) (n from k : ℕ) : Type 0 where
+  pub long : 4 + 12 * n ≤ length s
+  pub within : from + k ≤ n
+  pub here : Subtree (cellAt s n) from k
+
 -- an image of n nodes, of which the k from `from` on are a rule's
 pub record Inside (s : List ℕ) (n from k : ℕ) : Type 0 where
   pub long : 4 + 12 * n ≤ length s
@@ -47,3 +53,6 @@ SaidTo s n says least w i = (j : ℕ) → j < i → (l : Leaf) → cellAt s n j 
 -- each leaf does
 abbrev pub Said : List ℕ → ℕ → List ℕ → ℕ → World → Type 0
 Said s n says least w = SaidTo s n says least w n
+
+abbrev pub rowOf : {s : List ℕ} {n from k : ℕ} → Inside s n from k → Row s n from k
+rowOf i = record { long = i .long; within = i .within; here = i .here }

@@ -1,4 +1,4 @@
--- The walk over a combinator's children in a row of cells, from the last one back to the first. Assumes nothing.
+-- decide's SubtreeLaws over leaf answers by index: the walk over a combinator's children knows no world and no reading. Assumes nothing.
 use mathlib.Core.Path.{_≡_, sym, _∙_}
 use mathlib.Core.Bool.{Bool, true, false, cond}
 use mathlib.Core.List.{List, _∷_}
@@ -10,7 +10,8 @@ use Rattle.image.specs.Decode.{Meaning, aLeaf, aJoin, Cell}
 use Rattle.image.specs.EncodeLaws.{size-pos}
 use Rattle.image.specs.StandingLaws.{root-size}
 use Rattle.image.specs.Standing.{Stands, StandAll}
-use Rattle.decide.specs.Evict.{World, leafSays, yeses, joinSays, evict, answers}
+use Rattle.decide.specs.Evict.{yeses, joinSays}
+use Rattle.decide.specs.By.{evictBy, answersBy}
 use Rattle.decide.specs.Subtree.{Subtree}
 use Rattle.decide.specs.MeaningLaws.{NoLeaf, NoJoin}
 
@@ -26,16 +27,16 @@ moved-few false e = omega arith
 
 -- of the rules rs and r, `rest` are not yet asked, and stand from `from` up to `end`; in each world that
 -- counts, y of the t asked say evict
-pub record Walk (f : ℕ → Cell) (W : World → Type 0) (from end y t : ℕ) (rs : Rules) (r : Rule) (rest : Rules) : Type 0 where
+pub record Walk (f : ℕ → Cell) (g : ℕ → Bool) (from end y t : ℕ) (rs : Rules) (r : Rule) (rest : Rules) : Type 0 where
   pub standing : StandAll rest f from
   pub ends : from + sizes rest ≡ end
-  pub evicts : (v : World) → W v → y + yeses (answers rest v) ≡ yeses (answers (more rs r) v)
-  pub told : (v : World) → W v → t + length (answers rest v) ≡ length (answers (more rs r) v)
+  pub evicts : y + yeses (answersBy g rest from) ≡ yeses (answersBy g (more rs r) from)
+  pub told : t + length (answersBy g rest from) ≡ length (answersBy g (more rs r) from)
 
 -- so for whatever combinator has the k cells from `from` on
-abbrev pub Walks : (ℕ → Cell) → (World → Type 0) → ℕ → ℕ → ℕ → ℕ → ℕ → Type 0
-Walks f W from k end y t =
-    (j : Join) (rs : Rules) (r : Rule) → size (node j rs r) ≡ k → Stands (node j rs r) f from → (rest : Rules) × Walk f W from end y t rs r rest
+abbrev pub Walks : (ℕ → Cell) → (ℕ → Bool) → ℕ → ℕ → ℕ → ℕ → ℕ → Type 0
+Walks f g from k end y t =
+    (j : Join) (rs : Rules) (r : Rule) → size (node j rs r) ≡ k → Stands (node j rs r) f from → (rest : Rules) × Walk f g from end y t rs r rest
 
 -- the last rule that is not yet asked
 pub record Last (f : ℕ → Cell) (from end : ℕ) : Type 0 where
@@ -45,18 +46,18 @@ pub record Last (f : ℕ → Cell) (from end : ℕ) : Type 0 where
   pub ends : from + sizes before + size child ≡ end
 
 -- an answer is that of whatever rule has the k cells from `from` on, in each world that counts
-abbrev pub Answered : (ℕ → Cell) → (World → Type 0) → ℕ → ℕ → Bool → Type 0
-Answered f W from k b = (r : Rule) (v : World) → size r ≡ k → Stands r f from → W v → b ≡ evict r v
+abbrev pub Answered : (ℕ → Cell) → (ℕ → Bool) → ℕ → ℕ → Bool → Type 0
+Answered f g from k b = (r : Rule) → size r ≡ k → Stands r f from → b ≡ evictBy g r from
 
-module _ (f : ℕ → Cell) (W : World → Type 0) (from k : ℕ) where
-  pub walks-start : Walks f W from k (from + k - 1) 0 0
+module _ (f : ℕ → Cell) (g : ℕ → Bool) (from k : ℕ) where
+  pub walks-start : Walks f g from k (from + k - 1) 0 0
   unfolding size Stands
   walks-start j rs r e st =
-      (more rs r, record { standing = (st .0, st .1); ends = omega arith; evicts = λ v w. omega arith; told = λ v w. omega arith })
+      (more rs r, record { standing = (st .0, st .1); ends = omega arith; evicts = omega arith; told = omega arith })
 
   -- the walk has come to `end`
-  module _ {end y t : ℕ} (ws : Walks f W from k end y t) where
-    last-of : (rs : Rules) (r : Rule) → from < end → (rest : Rules) → Walk f W from end y t rs r rest → Last f from end
+  module _ {end y t : ℕ} (ws : Walks f g from k end y t) where
+    last-of : (rs : Rules) (r : Rule) → from < end → (rest : Rules) → Walk f g from end y t rs r rest → Last f from end
     unfolding size Stands
     last-of rs r lt nil w = absurd (omega (arith, w .ends))
     last-of rs r lt (more rest q) w =
@@ -75,8 +76,8 @@ module _ (f : ℕ → Cell) (W : World → Type 0) (from k : ℕ) where
 
     -- the cell before `end` says z
     module _ {z : ℕ} (says : z ≡ f (end - 1) .size) where
-      next-of : (b : Bool) {y′ : ℕ} (rs : Rules) (r : Rule) → from < end → Answered f W (end - z) z b → y′ ≡ cond b (suc y) y → (rest : Rules) → Walk f W from end y t rs r rest → (rest : Rules) × Walk f W from (end - z) y′ (t + 1) rs r rest
-      unfolding size Stands answers
+      next-of : (b : Bool) {y′ : ℕ} (rs : Rules) (r : Rule) → from < end → Answered f g (end - z) z b → y′ ≡ cond b (suc y) y → (rest : Rules) → Walk f g from end y t rs r rest → (rest : Rules) × Walk f g from (end - z) y′ (t + 1) rs r rest
+      unfolding size Stands evictBy
       next-of b rs r lt ans ey nil w = absurd (omega (arith, w .ends))
       next-of b {y′} rs r lt ans ey (more rest q) w =
           let h = w .ends in
@@ -84,51 +85,51 @@ module _ (f : ℕ → Cell) (W : World → Type 0) (from k : ℕ) where
           let pq : size q ≡ z = sym (rw pe at (root-size q f (from + sizes rest) (w .standing .1))) ∙ sym says in
           let pf : from + sizes rest ≡ end - z = omega arith in
           let st : Stands q f (end - z) = rw pf at (w .standing .1) in
-          let e : (v : World) → W v → y + yeses (b ∷ answers rest v) ≡ yeses (answers (more rs r) v) = λ v i. rw (ans q v pq st i) (w .evicts v i) in (
+          let e : y + yeses (b ∷ answersBy g rest from) ≡ yeses (answersBy g (more rs r) from) = rw (ans q pq st, ← pf) (w .evicts) in (
             rest,
             record {
               standing = w .standing .0;
               ends = pf;
-              evicts = λ v i. yeses-moved b (answers rest v) y y′ ey ∙ e v i;
-              told = λ v i. omega (arith, w .told v i);
+              evicts = yeses-moved b (answersBy g rest from) y y′ ey ∙ e;
+              told = omega (arith, w .told);
             },
           )
 
       -- one child more is asked
-      pub walks-next : from < end → (b : Bool) {y′ : ℕ} → Answered f W (end - z) z b → y′ ≡ cond b (suc y) y → Walks f W from k (end - z) y′ (t + 1)
+      pub walks-next : from < end → (b : Bool) {y′ : ℕ} → Answered f g (end - z) z b → y′ ≡ cond b (suc y) y → Walks f g from k (end - z) y′ (t + 1)
       walks-next lt b ans ey j rs r e st = let (rest, w) = ws j rs r e st in next-of b rs r lt ans ey rest w
 
-    done-of : (rs : Rules) (r : Rule) → end ≤ from → (rest : Rules) → Walk f W from end y t rs r rest → (v : World) → W v → (yeses (answers (more rs r) v) ≡ y) × (length (answers (more rs r) v) ≡ t)
-    unfolding size answers yeses
-    done-of rs r le nil w v i = (omega (arith, w .evicts v i), omega (arith, w .told v i))
-    done-of rs r le (more rest q) w v i = absurd (omega (arith, w .ends, size-pos q))
+    done-of : (rs : Rules) (r : Rule) → end ≤ from → (rest : Rules) → Walk f g from end y t rs r rest → (yeses (answersBy g (more rs r) from) ≡ y) × (length (answersBy g (more rs r) from) ≡ t)
+    unfolding size evictBy yeses
+    done-of rs r le nil w = (omega (arith, w .evicts), omega (arith, w .told))
+    done-of rs r le (more rest q) w = absurd (omega (arith, w .ends, size-pos q))
 
     -- all are asked
-    pub join-done : {m : Meaning} {b : Bool} → m ≡ f (from + k - 1) .what → NoLeaf m → end ≤ from → ((j : Join) (bs : List Bool) → m ≡ aJoin j → yeses bs ≡ y → length bs ≡ t → b ≡ joinSays j bs) → Answered f W from k b
-    unfolding size Stands evict answers
-    join-done p other le says (leaf l) v e st i =
+    pub join-done : {m : Meaning} {b : Bool} → m ≡ f (from + k - 1) .what → NoLeaf m → end ≤ from → ((j : Join) (bs : List Bool) → m ≡ aJoin j → yeses bs ≡ y → length bs ≡ t → b ≡ joinSays j bs) → Answered f g from k b
+    unfolding size Stands evictBy
+    join-done p other le says (leaf l) e st =
         let q : from ≡ from + k - 1 = omega arith in
         absurd (other l (p ∙ (rw q at (st .0))))
-    join-done p other le says (node j rs r) v e st i =
+    join-done p other le says (node j rs r) e st =
         let q : from + sizes rs + size r ≡ from + k - 1 = omega arith in
         let (rest, w) = ws j rs r e st in
-        let (x, z) = done-of rs r le rest w v i in
-        says j (answers (more rs r) v) (p ∙ (rw q at (st .2))) x z
+        let (x, z) = done-of rs r le rest w in
+        says j (answersBy g (more rs r) from) (p ∙ (rw q at (st .2))) x z
 
   -- a leaf has no children: it is known by its meaning, or by its one cell
-  pub leaf-done : {m : Meaning} {b : Bool} → m ≡ f (from + k - 1) .what → NoJoin m → ((l : Leaf) (v : World) → m ≡ aLeaf l → W v → b ≡ leafSays l v) → Answered f W from k b
-  unfolding size Stands evict
-  leaf-done p other says (leaf l) v e st i =
-      let q : from ≡ from + k - 1 = omega arith in
-      says l v (p ∙ (rw q at (st .0))) i
-  leaf-done p other says (node j rs r) v e st i =
+  pub leaf-done : {m : Meaning} {b : Bool} → m ≡ f (from + k - 1) .what → NoJoin m → ((l : Leaf) → m ≡ aLeaf l → b ≡ g (from + k - 1)) → Answered f g from k b
+  unfolding size Stands evictBy
+  leaf-done {b = b} p other says (leaf l) e st =
+      let q : from + k - 1 ≡ from = omega arith in
+      rw q at (says l (p ∙ (rw (sym q) at (st .0))))
+  leaf-done p other says (node j rs r) e st =
       let q : from + sizes rs + size r ≡ from + k - 1 = omega arith in
       absurd (other j (p ∙ (rw q at (st .2))))
 
-  pub one-done : {b : Bool} → k ≡ 1 → ((l : Leaf) (v : World) → f from .what ≡ aLeaf l → W v → b ≡ leafSays l v) → Answered f W from k b
-  unfolding size Stands evict
-  one-done one says (leaf l) v e st i = says l v (st .0) i
-  one-done one says (node j rs r) v e st i = absurd (omega (arith, size-pos r))
+  pub one-done : {b : Bool} → k ≡ 1 → b ≡ g from → Answered f g from k b
+  unfolding size Stands evictBy
+  one-done one says (leaf l) e st = says
+  one-done one says (node j rs r) e st = absurd (omega (arith, size-pos r))
 
 -- the last rule's size is what the cell before `end` says, and it stands there
 module _ {f : ℕ → Cell} {from end : ℕ} (l : Last f from end) {z : ℕ} (says : z ≡ f (end - 1) .size) where

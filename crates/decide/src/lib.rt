@@ -8,9 +8,10 @@ ghost use Rattle.image.specs.Rule.{Rule, Leaf, Join};
 ghost use Rattle.image.specs.Rule.{size as sizeOf};
 ghost use Rattle.image.specs.Decode.{aLeaf, aJoin, meaning, cellAt};
 ghost use Rattle.image.specs.Standing.{Stands};
-ghost use Rattle.decide.specs.Evict.{World, leafSays, joinSays, yeses, evict};
+ghost use Rattle.decide.specs.Evict.{leafSays, joinSays, yeses, evict};
+ghost use Rattle.decide.specs.By.{evictBy, saysAt};
 ghost use Rattle.decide.specs.Decide.{decideOf};
-ghost use Rattle.decide.specs.Subtree.{Inside, Known, Said, worldIn};
+ghost use Rattle.decide.specs.Subtree.{Row, Inside, Known, Said, worldIn};
 use image::le2;
 use image::valid::is_image;
 use image::valid::name_of;
@@ -123,8 +124,8 @@ fn join_says(kind: u64, arg: u64, yes: u64, total: u64) -> bool
 // What the rule says whose nodes are the `size` from `from` on, where a leaf says evict if its number is at least `least`: the
 // size falls at each call, and leaves need none.
 pub fn evaluate(image: &[u8], n: usize, from: usize, size: usize, says: &[u8], least: u8) -> bool
-    requires { ⌜ Inside (now image) n from size × (n ≤ length (now says)) ⌝ }
-    ensures { λ r. ⌜ ((ρ : Rule) (w : World) → sizeOf ρ ≡ size → Stands ρ (cellAt (now (image .entry)) n) from → Said (now (image .entry)) n (now (says .entry)) least w → r ≡ evict ρ w) ⌝ }
+    requires { ⌜ Row (now image) n from size × (n ≤ length (now says)) ⌝ }
+    ensures { λ r. ⌜ ((ρ : Rule) → sizeOf ρ ≡ size → Stands ρ (cellAt (now (image .entry)) n) from → r ≡ evictBy (saysAt (now (says .entry)) least) ρ from) ⌝ }
 {
     let at = from + size - 1;
     let root = node_at(image, n, at);

@@ -1,6 +1,6 @@
 -- `decide::evaluate` meets its contract: the walk over the children keeps how many were asked and how many said evict, each child
 -- has fewer nodes than its parent, and a child of one node is a leaf. Assumes nothing.
-use mathlib.Core.Path.{_≡_, sym, _∙_}
+use mathlib.Core.Path.{_≡_, refl, _∙_}
 use mathlib.Core.Bool.{Bool, cond}
 use mathlib.Core.Logic.{⊎-elim}
 use Prim.Native.Nat.{ℕ, suc, _+_, _-_, _≤_, _<_}
@@ -14,7 +14,7 @@ use borrow.Fn.PlainCycle.{Measures, is, falls, and}
 use Rattle.image.specs.Decode.{cellAt}
 use Rattle.image.specs.FitLaws.{cell-size}
 use Rattle.image.specs.EncodeLaws.{size-pos}
-use Rattle.decide.specs.Subtree.{Said}
+use Rattle.decide.specs.By.{saysAt}
 use Rattle.decide.specs.MeaningLaws.{no-leaf, no-join}
 use Rattle.decide.specs.SubtreeLaws.{Walks, walks-start, walks-next, Last, last, last-here, last-back, Answered, moved-few, leaf-done, one-done, join-done}
 use Rattle.decide.specs.ReadingLaws.{cell-what}
@@ -42,7 +42,7 @@ given t = (node-at-reads.Asked, node-at-reads.Learnt, evaluate-below t, evaluate
 
 abbrev evaluate-Inv-loop : evaluate-lts.InvT-loop
 evaluate-Inv-loop image n from size says least at kind arg end₀ yes₀ total₀ end yes' total =
-    (total + end ≤ at) × (yes' ≤ total) × Walks (cellAt image n) (Said image n says least) from size end yes' total
+    (total + end ≤ at) × (yes' ≤ total) × Walks (cellAt image n) (saysAt says least) from size end yes' total
 
 abbrev evaluate-μ-loop : evaluate-lts.MeasureT-loop
 evaluate-μ-loop image n from size says least at kind arg end₀ yes₀ total₀ end yes' total = end
@@ -112,7 +112,7 @@ evaluate-evaluate-requires t c κs =
     let n = the-node t s in
     let b = the-back t (c .before) in
     let q : c .before .node-at2 .result .size < t = omega (arith, s .pre .0, c .before .before .before .loop .inv .0) in
-    (q, (record { long = s .pre .1 .0 .long; names = s .pre .1 .0 .names; within = omega (arith, the-room t (c .before) .0); here = last-here (the-last t (c .before .before)) (cell-size _ _ _ (c .before .node-at2 .ensures)) }, s .pre .1 .1))
+    (q, (record { long = s .pre .1 .0 .long; within = omega (arith, the-room t (c .before) .0); here = last-here (the-last t (c .before .before)) (cell-size _ _ _ (c .before .node-at2 .ensures)) }, s .pre .1 .1))
 
 evaluate-add-yes-2 : (t : ℕ) → evaluate-lts.Need-add-yes-2 (given t) (evaluate-at t) evaluate.Post evaluate-Inv-loop evaluate-μ-loop
 evaluate-add-yes-2 t c = omega (arith, the-room t (c .before .before .before) .1, c .before .before .before .before .before .before .before .before .before .before .before .fits .n)
@@ -127,12 +127,12 @@ evaluate-loop-less t c = omega (arith, the-back t (c .before))
 abbrev Child : (t : ℕ) → evaluate-lts.After-node-at2 (given t) (evaluate-at t) evaluate.Post evaluate-Inv-loop evaluate-μ-loop → Bool → Type 0
 Child t c b =
     let a = c .before .before .before .before .before .before .before .before .args in
-    Answered (cellAt (a .image .now) (a .n)) (Said (a .image .now) (a .n) (a .says .now) (a .least)) (c .before .before .loop .end - c .node-at2 .result .size) (c .node-at2 .result .size) b
+    Answered (cellAt (a .image .now) (a .n)) (saysAt (a .says .now) (a .least)) (c .before .before .loop .end - c .node-at2 .result .size) (c .node-at2 .result .size) b
 
 -- a child of one node says what its number says
 the-leaf : (t : ℕ) (c : evaluate-lts.Then3 (given t) (evaluate-at t) evaluate.Post evaluate-Inv-loop evaluate-μ-loop) →
     Child t (c .before) (leb (c .before .before .before .before .before .before .before .before .before .args .least) (getD (c .before .before .before .before .before .before .before .before .before .args .says .now) (c .before .before .before .loop .end - c .before .node-at2 .result .size) 0))
-the-leaf t c = one-done _ _ _ _ (c .if3 .taken) (λ l v e w. w _ (omega (arith, the-back t (c .before), the-room t (c .before) .0)) l e)
+the-leaf t c = one-done _ _ _ _ (c .if3 .taken) refl
 
 -- a turn counts what the child says
 the-turn : (t : ℕ) (c : evaluate-lts.Joined3 (given t) (evaluate-at t) evaluate.Post evaluate-Inv-loop evaluate-μ-loop) →
@@ -157,7 +157,7 @@ evaluate-returns : (t : ℕ) → evaluate-lts.Need-returns (given t) (evaluate-a
 evaluate-returns t c =
     let s = c .before .before .before .before .before in
     let d = c .before .before .node-at in
-    leaf-done _ _ _ _ (cell-what _ _ _ (d .ensures)) (no-join _ _ (d .result .kind) _ (λ h i. omega arith)) (λ l v e w. w _ (omega (arith, the-node t s)) l (sym (cell-what _ _ _ (d .ensures)) ∙ e))
+    leaf-done _ _ _ _ (cell-what _ _ _ (d .ensures)) (no-join _ _ (d .result .kind) _ (λ h i. omega arith)) (λ l e. refl)
 
 evaluate-returns-2 : (t : ℕ) → evaluate-lts.Need-returns-2 (given t) (evaluate-at t) evaluate.Post evaluate-Inv-loop evaluate-μ-loop
 evaluate-returns-2 t c =
@@ -167,7 +167,7 @@ evaluate-returns-2 t c =
 evaluate-returns-3 : (t : ℕ) → evaluate-lts.Need-returns-3 (given t) (evaluate-at t) evaluate.Post evaluate-Inv-loop evaluate-μ-loop
 evaluate-returns-3 t c =
     let d = c .before .before .node-at in
-    leaf-done _ _ _ _ (cell-what _ _ _ (d .ensures)) (no-join _ _ (d .result .kind) _ (λ h i. omega arith)) (λ l v e w. absurd (no-leaf _ _ (d .result .kind) _ (omega arith) l e))
+    leaf-done _ _ _ _ (cell-what _ _ _ (d .ensures)) (no-join _ _ (d .result .kind) _ (λ h i. omega arith)) (λ l e. absurd (no-leaf _ _ (d .result .kind) _ (omega arith) l e))
 
 pub +evaluate-spec : {M : Type 1} → statement M
 +evaluate-spec = close μ-evaluate λ t. evaluate-lts.spec (given t)

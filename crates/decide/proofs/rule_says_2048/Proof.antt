@@ -1,5 +1,10 @@
 -- `decide::rule_says_2048` meets its contract: the leaves are said first, then the rule. Assumes nothing.
+use mathlib.Core.Path.{_∙_}
+use Prim.Native.Nat.{_≤_, _+_}
+use native.Mathlib.Omega.{arith}
 use borrow.Author.Needs.{needs}
+use Rattle.decide.specs.Subtree.{rowOf}
+use Rattle.decide.specs.ByLaws.{by-says}
 use Rattle.decide.proofs.rule_says_2048.Statement.{statement}
 use Rattle.decide.proofs.rule_says_2048.Tie as tie
 
@@ -13,10 +18,10 @@ slice-aggregate-evaluate : tie.Need-slice-aggregate-evaluate
 slice-aggregate-evaluate c = search needs
 
 evaluate-requires : tie.Need-evaluate-requires
-evaluate-requires c κs = search needs
+evaluate-requires c κs = (rowOf (c .before .before .before .before .before .before .before .pre .0), omega arith)
 
 returns : tie.Need-returns
-returns c = λ ρ e st. c .evaluate .ensures ρ _ e st (c .before .before .before .say-leaves .ensures)
+returns c = λ ρ e st. c .evaluate .ensures ρ e st ∙ by-says _ _ _ _ (c .before .before .before .say-leaves .ensures) ρ 0 (omega arith) st
 
 pub rule-says-2048-spec : {M : Type 1} → statement M
 rule-says-2048-spec =

@@ -1,7 +1,11 @@
 -- `safety::check_names` meets its contract: the tests are 20, 21 and 22 in their order. Assumes nothing.
 use mathlib.Core.Path.{_≡_, _∙_}
 use mathlib.Core.List.{[]}
+use Prim.Native.Nat.{_≤_, _+_}
+use native.Mathlib.Omega.{arith}
 use borrow.Author.Needs.{needs}
+use Rattle.decide.specs.Subtree.{rowOf}
+use Rattle.decide.specs.ByLaws.{by-says}
 use Rattle.image.specs.Rule.{Rule, size}
 use Rattle.image.specs.Decode.{cellAt}
 use Rattle.image.specs.Standing.{Stands}
@@ -14,10 +18,10 @@ use Rattle.safety.proofs.check_names.Tie as tie
 
 -- what the rule says with nothing confirmed, and with just the write-only stores
 the-bare : (c : tie.After-evaluate) → (let s = c .before .before .before .before .before .before .before .before .before .before .before .args in (r : Rule) → size r ≡ s .n → Stands r (cellAt (s .image .now) (s .n)) 0 → c .evaluate .result ≡ bare r (entriesIn (s .stores .now)))
-the-bare c r z st = c .evaluate .ensures r (worldOf _ oldest []) z st (λ i lt l e. c .before .before .before .before .before .before .grade-leaves .ensures .1 (c .before .before .enum-told .given .1) i lt l e .bare)
+the-bare c r z st = c .evaluate .ensures r z st ∙ by-says _ _ (worldOf _ oldest []) _ (λ i lt l e. c .before .before .before .before .before .before .grade-leaves .ensures .1 (c .before .before .enum-told .given .1) i lt l e .bare) r 0 (omega arith) st
 
 the-archived : (c : tie.After-evaluate2) → (let s = c .before .before .before .before .before .before .before .before .before .before .before .before .before .before .args in (r : Rule) → size r ≡ s .n → Stands r (cellAt (s .image .now) (s .n)) 0 → c .evaluate2 .result ≡ evict r (worldOf (entriesIn (s .stores .now)) oldest (writeOnly (entriesIn (s .stores .now)))))
-the-archived c r z st = c .evaluate2 .ensures r (worldOf _ oldest (writeOnly _)) z st (λ i lt l e. c .before .before .before .before .before .before .before .before .before .grade-leaves .ensures .1 (c .before .before .before .before .before .enum-told .given .1) i lt l e .archived)
+the-archived c r z st = c .evaluate2 .ensures r z st ∙ by-says _ _ (worldOf _ oldest (writeOnly _)) _ (λ i lt l e. c .before .before .before .before .before .before .before .before .before .grade-leaves .ensures .1 (c .before .before .before .before .before .enum-told .given .1) i lt l e .archived) r 0 (omega arith) st
 
 grade-leaves-requires : tie.Need-grade-leaves-requires
 grade-leaves-requires c κs = search needs
@@ -40,7 +44,7 @@ enum-told : tie.Need-enum-told
 enum-told c = search needs
 
 evaluate-requires : tie.Need-evaluate-requires
-evaluate-requires c κs = search needs
+evaluate-requires c κs = (rowOf (c .before .before .before .before .before .before .before .before .before .before .pre .0), search needs)
 
 refuse-requires-2 : tie.Need-refuse-requires-2
 refuse-requires-2 c κs = search needs
@@ -55,7 +59,7 @@ returns-2 c r z st =
     c .refuse2 .ensures ∙ refused-21 r _ (s .pre .1 .1 .0) (g .grade-leaves .ensures .0 r z st) (c .before .before .before .before .enum-told .given .1) (the-bare (c .before .before) r z st) (c .before .if1 .taken)
 
 evaluate-requires-2 : tie.Need-evaluate-requires-2
-evaluate-requires-2 c κs = search needs
+evaluate-requires-2 c κs = (rowOf (c .before .before .before .before .before .before .before .before .before .before .before .before .before .pre .0), search needs)
 
 refuse-requires-3 : tie.Need-refuse-requires-3
 refuse-requires-3 c κs = search needs
