@@ -1,9 +1,1 @@
-pub mod Text
 pub mod Letters
-pub mod Search
-pub mod Written
-pub mod TextLaws
-pub mod LettersLaws
-pub mod SearchLaws
-pub mod TestLaws
-pub mod WrittenLaws

@@ -1,10 +1,6 @@
-// Bytes as letters and digits, two byte strings compared, and bytes put into a text.
+// Letters and digits of ASCII, and two byte strings compared, with or without regard to case.
 ghost use mathlib.Core.Path.{_≡_};
-ghost use Prim.Native.Nat.{_+_, _≤_};
-ghost use lib.ListN.{length, drop};
-ghost use Rattle.ascii.specs.Letters.{within, isDigit, lower, foldedIf, equalBy, equal, equalIgnoringCase};
-ghost use Rattle.ascii.specs.Search.{largest, behindLast};
-ghost use Rattle.ascii.specs.Written.{Put};
+ghost use Rattle.ascii.specs.Letters.{isDigit, lower, foldedIf, equalBy, equal, equalIgnoringCase};
 
 // The byte is a decimal digit.
 pub fn is_digit(b: u8) -> bool
@@ -64,61 +60,4 @@ pub fn eq_ignore_ascii_case(a: &[u8], b: &[u8]) -> bool
     ensures { λ r. ⌜ r ≡ equalIgnoringCase (now (a .entry)) (now (b .entry)) ⌝ }
 {
     eq_folded(a, b, true)
-}
-
-// The largest byte from a position on, or 0.
-pub fn largest_from(s: &[u8], at: usize) -> u8
-    ensures { λ r. ⌜ r ≡ largest (drop at (now (s .entry))) ⌝ }
-{
-    let mut most: u8 = 0;
-    let mut i = at;
-    while i < s.len() {
-        if most < s[i] {
-            most = s[i];
-        }
-        i += 1;
-    }
-    most
-}
-
-// Behind the last of the first `at` bytes that is from lo up to hi, or 0.
-pub fn behind_last(s: &[u8], at: usize, lo: u8, hi: u8) -> usize
-    requires { ⌜ at ≤ length (now s) ⌝ }
-    ensures { λ r. ⌜ r ≡ behindLast (within lo hi) (now (s .entry)) at ⌝ }
-{
-    let mut i = at;
-    while 0 < i {
-        let b = s[i - 1];
-        if lo <= b {
-            if b <= hi {
-                return i;
-            }
-        }
-        i -= 1;
-    }
-    0
-}
-
-// Puts a piece so that it ends at a position, and answers where it begins.
-pub fn put(text: &mut [u8], end: usize, piece: &[u8]) -> usize
-    requires { ⌜ (length (now piece) ≤ end) × (end ≤ length (now text)) ⌝ }
-    ensures { λ r. ⌜ Put (now (text .entry)) (now (text .exit)) r end (now (piece .entry)) ⌝ }
-{
-    let start = end - piece.len();
-    let mut i = 0;
-    while i < piece.len() {
-        text[start + i] = piece[i];
-        i += 1;
-    }
-    start
-}
-
-// Puts a piece from a position on, and answers where it ends.
-pub fn append(text: &mut [u8], at: usize, piece: &[u8]) -> usize
-    requires { ⌜ at + length (now piece) ≤ length (now text) ⌝ }
-    ensures { λ r. ⌜ Put (now (text .entry)) (now (text .exit)) at r (now (piece .entry)) ⌝ }
-{
-    let end = at + piece.len();
-    put(text, end, piece);
-    end
 }

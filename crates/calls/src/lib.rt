@@ -1,23 +1,23 @@
-// A function's call after its opening bracket: up to the closing one or to its list of arguments.
+// Calls: what is between a function's brackets, up to its closing bracket or its list.
 ghost use mathlib.Core.Path.{_≡_};
 ghost use Prim.Native.Nat.{_≤_};
 ghost use lib.ListN.{length};
 ghost use Rattle.classes.specs.Class.{faults};
-ghost use Rattle.words.specs.Token.{tokensFrom};
-ghost use Rattle.grammar.specs.Grammar.{callHead, olderThanHead, readableHead, atLeastHead};
-ghost use Rattle.grammar.specs.Heads.{left, Begins};
+ghost use Rattle.tokens.specs.Token.{tokensFrom};
+ghost use Rattle.grammar.specs.Grammar.{olderThanHead, readableHead, atLeastHead, callHead};
+ghost use Rattle.grammar.specs.Inner.Heads.{left, Begins};
+use decimal::Parsed;
+use decimal::count::parse_count;
+use durations::duration::parse_duration;
 use grammar::Combinator;
 use grammar::Function;
 use grammar::Head;
 use grammar::Test;
 use grammar::refuse;
-use numbers::Parsed;
-use numbers::count::parse_count;
-use numbers::duration::parse_duration;
-use words::Token;
-use words::place_of;
-use words::token_at;
-use words::word_of;
+use signs::place_of;
+use tokens::Token;
+use tokens::token_at;
+use tokens::word_of;
 
 // `older_than(`: a word is due, then `)`, and then the word must be a duration.
 fn older_than_head(text: &[u8], at: usize, class: &[u8; 256]) -> Head

@@ -1,7 +1,7 @@
-// The class of a byte, from a constant table of 256 entries.
+// The class of a byte, from a constant table.
 ghost use mathlib.Core.Path.{_≡_};
-ghost use Rattle.ascii.specs.Text.{runEnd};
-ghost use Rattle.classes.specs.Class.{classOf, ofClass, faults};
+ghost use Rattle.slices.specs.Text.{runEnd};
+ghost use Rattle.classes.specs.Class.{faults, classOf, ofClass};
 
 // The classes, numbered in the order of the class rule.
 pub const BLANK: u8 = 0;

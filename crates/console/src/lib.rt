@@ -1,7 +1,7 @@
-// The input and output of the programs `ruleread` and `rulejudge`. What they print is made by `report` and `page`.
-ghost use Prim.Native.Nat.{_+_, _≤_};
+// Standard input, arguments and standard output of the programs.
+ghost use Prim.Native.Nat.{_≤_, _+_};
 ghost use lib.ListN.{length};
-ghost use Rattle.console.specs.Input.{sizeOf};
+ghost use Rattle.console.specs.Inner.Input.{sizeOf};
 use libc::ENAMETOOLONG;
 use libc::STDIN_FILENO;
 use libc::STDOUT_FILENO;
@@ -59,7 +59,7 @@ pub fn ruleread() {
         return;
     };
     let mut line = [0u8; 64];
-    let end = report::reading::reading_line(&mut line, &text[..size]);
+    let end = read_line::reading_line(&mut line, &text[..size]);
     io::write_all(STDOUT_FILENO, &line[..end]);
 }
 

@@ -4,10 +4,10 @@ use mathlib.Core.Bool.{Bool, true, false, cond}
 use mathlib.Core.List.{List}
 use mathlib.Core.Option.{Option, none, some}
 use Rattle.refusals.specs.Refusals.{refusal, badImage, badStoreTable, twinName, badConfirmedList}
-use Rattle.image.specs.Rule.{Rule}
+use Rattle.rules.specs.Rule.{Rule}
 use Rattle.image.specs.Decode.{decode}
-use Rattle.stores.specs.Stores.{isTable, isList, entriesIn, namesOf, twinOf, unlessTwin}
-use Rattle.decide.specs.Evict.{worldOf, evict}
+use Rattle.store_table.specs.Stores.{isTable, isList, entriesIn, namesOf, twinOf, unlessTwin}
+use Rattle.evaluate.specs.Evict.{worldOf, evict}
 use Rattle.decide.specs.declared.Decision.{Decision}
 use Rattle.decide.specs.declared.Decision.the-variants.{Evict, Keep, Refused}
 

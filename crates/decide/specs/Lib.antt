@@ -1,15 +1,1 @@
-pub mod Evict
-pub mod By
-pub mod ByLaws
-pub mod JoinLaws
-pub mod MonotoneLaws
 pub mod Decide
-pub mod DecideLaws
-pub mod ReadDecideLaws
-pub mod Subtree
-pub mod MeaningLaws
-pub mod SubtreeLaws
-pub mod SaidLaws
-pub mod ReadingLaws
-pub mod InsideLaws
-pub mod AnswerLaws

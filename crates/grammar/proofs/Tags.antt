@@ -8,13 +8,13 @@ use mir.Val.{hasKey}
 use types.Run.{OneOf, miss}
 use denote.Enum.Declared.{tagOf}
 use Rattle.refusals.specs.Refusals.{noExpression}
-use Rattle.words.proofs.Token.{the-type}
-use Rattle.words.specs.Token.{placeOf, tokenAt, tokensFrom}
-use Rattle.words.specs.declared.Token.{Token}
-use Rattle.words.specs.declared.Token.the-variants.{End, Open, Close, Comma, And, Or, Word, Fault}
+use Rattle.tokens.proofs.Token.{the-type}
+use Rattle.tokens.specs.Token.{placeOf, tokenAt, tokensFrom}
+use Rattle.tokens.specs.declared.Token.{Token}
+use Rattle.tokens.specs.declared.Token.the-variants.{End, Open, Close, Comma, And, Or, Word, Fault}
 use Rattle.grammar.specs.Grammar.{tokenKind, openSign, commaSign, closeSign, missing, after, undue, dueIn, refuse, headIn}
-use Rattle.grammar.specs.TokenListLaws.{after-off, word-undue}
-use Rattle.grammar.specs.HeadLaws.{head-none}
+use Rattle.grammar.proofs.Laws.TokenListLaws.{after-off, word-undue}
+use Rattle.grammar.proofs.Laws.HeadLaws.{head-none}
 
 tag-kind : (t : Token) → tagOf the-type t ≡ tokenKind t
 tag-kind (End p) = refl

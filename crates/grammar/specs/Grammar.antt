@@ -3,20 +3,20 @@ use Prim.Native.Nat.{ℕ, zero, suc, _+_}
 use mathlib.Core.Bool.{Bool, true, false, cond}
 use mathlib.Core.List.{List, [], _∷_}
 use lib.Dec.{ltb, eqb}
-use Rattle.ascii.specs.Text.{bytes, part}
+use Rattle.slices.specs.Text.{bytes, part}
 use Rattle.ascii.specs.Letters.{equalIgnoringCase}
 use Rattle.refusals.specs.declared.Refusal.{Refusal}
 use Rattle.refusals.specs.Refusals.{refusal, noExpression, openBracket, unknownFunction, missingArgument, badCount, badDuration, emptyList, tooDeep}
-use Rattle.words.specs.declared.Token.{Token}
-use Rattle.words.specs.declared.Token.the-variants.{End, Open, Close, Comma, And, Or, Word, Fault}
-use Rattle.words.specs.Token.{placeOf}
-use Rattle.numbers.specs.declared.Parsed.{Parsed}
-use Rattle.numbers.specs.declared.Parsed.the-variants.{Value, Invalid}
-use Rattle.numbers.specs.Count.{countOf}
-use Rattle.numbers.specs.Duration.{durationOf}
+use Rattle.tokens.specs.declared.Token.{Token}
+use Rattle.tokens.specs.declared.Token.the-variants.{End, Open, Close, Comma, And, Or, Word, Fault}
+use Rattle.tokens.specs.Token.{placeOf}
+use Rattle.decimal.specs.declared.Parsed.{Parsed}
+use Rattle.decimal.specs.declared.Parsed.the-variants.{Value, Invalid}
+use Rattle.decimal.specs.Count.{countOf}
+use Rattle.durations.specs.Duration.{durationOf}
 use Rattle.grammar.specs.declared.Function.{Function}
 use Rattle.grammar.specs.declared.Function.the-variants.{OlderThan, Readable, Any, All, AtLeast, Unknown}
-use Rattle.image.specs.Rule.{Leaf, named, olderThan, readable, Join, atLeast, all, any, Rule, leaf, node, Rules, nil, more}
+use Rattle.rules.specs.Rule.{Leaf, named, olderThan, readable, Join, atLeast, all, any, Rule, leaf, node, Rules, nil, more}
 
 -- ---- looking at the next token
 

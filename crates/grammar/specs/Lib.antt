@@ -1,14 +1,3 @@
 pub mod Grammar
-pub mod Rules
 pub mod Reading
-pub mod TakenLaws
-pub mod GrammarLaws
-pub mod AsciiLaws
-pub mod SmallLaws
-pub mod FitsLaws
-pub mod Heads
-pub mod TokenListLaws
-pub mod BehindLaws
-pub mod HeadLaws
-pub mod NumberLaws
-pub mod CleanLaws
+pub mod Inner

@@ -5,14 +5,14 @@ use mathlib.Core.Bool.{Bool, true, cond}
 use mathlib.Core.List.{List, [], _∷_}
 use lib.Dec.{ltb, eqb}
 use lib.ListN.{length}
-use Rattle.ascii.specs.Text.{runEnd}
+use Rattle.slices.specs.Text.{runEnd}
 use Rattle.refusals.specs.declared.Refusal.{Refusal}
 use Rattle.refusals.specs.Refusals.{refusal, longText, foreignByte, trailingToken}
-use Rattle.words.specs.declared.Token.{Token}
-use Rattle.words.specs.declared.Scanned.{Scanned}
-use Rattle.words.specs.declared.Scanned.the-variants.{Clean, Refused}
-use Rattle.words.specs.Token.{ascii, tokensFrom, scanOf}
-use Rattle.image.specs.Rule.{Rule}
+use Rattle.tokens.specs.declared.Token.{Token}
+use Rattle.tokens.specs.declared.Scanned.{Scanned}
+use Rattle.tokens.specs.declared.Scanned.the-variants.{Clean, Refused}
+use Rattle.tokens.specs.Token.{ascii, tokensFrom, scanOf}
+use Rattle.rules.specs.Rule.{Rule}
 use Rattle.grammar.specs.Grammar.{tokenKind, firstPlace, Got, got, bad, orIn}
 
 -- a rule, or a refusal

@@ -1,9 +1,9 @@
-// What a primary can begin as, and the function that a word names.
+// The grammar: what a text reads as, the types that a primary begins as, and the function that a word names.
 ghost use mathlib.Core.Path.{_≡_};
 ghost use Rattle.refusals.specs.Refusals.{refusal};
 ghost use Rattle.image.specs.Encode.{leafKind, leafArg, joinKind, joinArg};
+ghost use Rattle.grammar.specs.Inner.Heads.{leafOf, joinOf};
 ghost use Rattle.grammar.specs.Grammar.{functionOf};
-ghost use Rattle.grammar.specs.Heads.{leafOf, joinOf};
 use ascii::eq_ignore_ascii_case;
 use refusals::Refusal;
 

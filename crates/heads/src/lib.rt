@@ -1,24 +1,24 @@
-// How a primary begins: all of it up to its bracket or its list of arguments.
+// How a primary begins.
 ghost use mathlib.Core.Path.{_≡_};
-ghost use Prim.Native.Nat.{_+_, _-_, _≤_};
+ghost use Prim.Native.Nat.{_≤_, _+_, _-_};
 ghost use lib.ListN.{length};
-ghost use Rattle.ascii.specs.Text.{part};
+ghost use Rattle.slices.specs.Text.{part};
 ghost use Rattle.classes.specs.Class.{faults};
-ghost use Rattle.words.specs.Token.{tokensFrom};
-ghost use Rattle.grammar.specs.Grammar.{headIn, wordHead, unquotedHead, after, openSign};
-ghost use Rattle.grammar.specs.Heads.{left, Begins};
+ghost use Rattle.tokens.specs.Token.{tokensFrom};
+ghost use Rattle.grammar.specs.Grammar.{unquotedHead, after, openSign, wordHead, headIn};
+ghost use Rattle.grammar.specs.Inner.Heads.{left, Begins};
 use ascii::eq_ignore_ascii_case;
 use calls::call_head;
 use grammar::Head;
 use grammar::Test;
 use grammar::function_of;
 use grammar::refuse;
-use words::Next;
-use words::Token;
-use words::bracket_at;
-use words::place_of;
-use words::token_at;
-use words::word_of;
+use signs::bracket_at;
+use signs::place_of;
+use tokens::Next;
+use tokens::Token;
+use tokens::token_at;
+use tokens::word_of;
 
 // An unquoted word that begins a primary: a function where a bracket follows it, else a leaf.
 fn unquoted_head(

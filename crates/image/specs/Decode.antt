@@ -5,9 +5,9 @@ use mathlib.Core.List.{List}
 use mathlib.Core.Option.{Option, none, some}
 use lib.Dec.{leb, eqb}
 use lib.ListN.{length, take, drop}
-use Rattle.image.specs.Rule.{Leaf, named, olderThan, readable, Join, atLeast, all, any, Rule, leaf, node, Rules, nil, more, size}
-use Rattle.image.specs.Bytes.{leAt}
-use Rattle.image.specs.Encode.{allAscii}
+use Rattle.rules.specs.Rule.{Leaf, named, olderThan, readable, Join, atLeast, all, any, Rule, leaf, node, Rules, nil, more, size}
+use Rattle.little_endian.specs.Bytes.{leAt}
+use Rattle.slices.specs.Text.{allAscii}
 
 abbrev pub when {ℓ} : {A : Type ℓ} → Bool → Option A → Option A
 when true o = o

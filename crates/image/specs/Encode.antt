@@ -5,8 +5,9 @@ use mathlib.Core.Bool.{Bool, true, _&&_}
 use mathlib.Core.List.{List, [], _∷_, _++_}
 use lib.Dec.{ltb}
 use lib.ListN.{length}
-use Rattle.image.specs.Rule.{Leaf, named, olderThan, readable, Join, atLeast, all, any, Rule, leaf, node, Rules, nil, more, size, sizes}
-use Rattle.image.specs.Bytes.{leBytes, packed}
+use Rattle.rules.specs.Rule.{Leaf, named, olderThan, readable, Join, atLeast, all, any, Rule, leaf, node, Rules, nil, more, size, sizes}
+use Rattle.little_endian.specs.Bytes.{leBytes, packed}
+use Rattle.slices.specs.Text.{allAscii}
 
 -- "Kinds: 0 named, 1 older_than, 2 readable"
 abbrev pub leafKind : Leaf → ℕ
@@ -83,11 +84,6 @@ imageOf n ts xs ws = leBytes 2 n ++ (leBytes 2 (length ws) ++ (packed 4 ts ++ (p
 unfoldable pub encode : Rule → List ℕ
 unfolding size tags args names imageOf
 encode r = imageOf (size r) (tags r) (args r 0) (names r)
-
--- "Name bytes are below 128"
-unfoldable pub allAscii : List ℕ → Bool
-allAscii [] = true
-allAscii (b ∷ bs) = ltb b 128 && allAscii bs
 
 -- counts and durations that 8 bytes hold
 unfoldable mutual

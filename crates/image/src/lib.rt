@@ -1,12 +1,17 @@
-// The rule image: numbers of two, four and eight bytes, an image written into a buffer, and the test that bytes are an image.
-pub mod valid;
-
+// The rule image: the kinds of nodes, an image written into a buffer, and a node and a name read from one.
 ghost use mathlib.Core.Path.{_≡_};
-ghost use Prim.Native.Nat.{_+_, _*_, _^_, _≤_, _<_};
-ghost use lib.ListN.{length, take};
-ghost use Rattle.ascii.specs.Written.{written};
-ghost use Rattle.image.specs.Bytes.{leBytes, packed, leAt};
+ghost use Prim.Native.Nat.{_+_, _*_, _≤_, _<_, _/_, _%_};
+ghost use lib.ListN.{length, take, drop};
+ghost use Rattle.slices.specs.Written.{written};
+ghost use Rattle.little_endian.specs.Bytes.{packed};
 ghost use Rattle.image.specs.Encode.{imageOf};
+ghost use Rattle.image.specs.Decode.{nodeAt};
+ghost use Rattle.image.specs.Inner.Valid.{nodeOf};
+use little_endian::le4;
+use little_endian::le8;
+use little_endian::put2;
+use little_endian::put4;
+use little_endian::put8;
 
 // The kinds of nodes.
 pub const NAMED: u32 = 0;
@@ -20,63 +25,6 @@ pub const AT_LEAST: u32 = 3;
 pub const ALL: u32 = 4;
 
 pub const ANY: u32 = 5;
-
-fn wide(x: u8) -> u64
-    ensures { λ r. ⌜ (r ≡ x) × (r < 256) ⌝ }
-{
-    x as u64
-}
-
-// The number that the two bytes from a position make, the lowest first.
-pub fn le2(s: &[u8], at: usize) -> u64
-    requires { ⌜ at + 2 ≤ length (now s) ⌝ }
-    ensures { λ r. ⌜ (r ≡ leAt (now (s .entry)) at 2) × (r < 2 ^ 16) ⌝ }
-{
-    wide(s[at]) + 256 * wide(s[at + 1])
-}
-
-// The number that four bytes make.
-pub fn le4(s: &[u8], at: usize) -> u64
-    requires { ⌜ at + 4 ≤ length (now s) ⌝ }
-    ensures { λ r. ⌜ (r ≡ leAt (now (s .entry)) at 4) × (r < 2 ^ 32) ⌝ }
-{
-    le2(s, at) + 65536 * le2(s, at + 2)
-}
-
-// The number that eight bytes make.
-pub fn le8(s: &[u8], at: usize) -> u64
-    requires { ⌜ at + 8 ≤ length (now s) ⌝ }
-    ensures { λ r. ⌜ r ≡ leAt (now (s .entry)) at 8 ⌝ }
-{
-    le4(s, at) + 4294967296 * le4(s, at + 4)
-}
-
-// Writes a number in two bytes, the lowest first.
-pub fn put2(s: &mut [u8], at: usize, x: u64)
-    requires { ⌜ at + 2 ≤ length (now s) ⌝ }
-    ensures { λ _. ⌜ now (s .exit) ≡ written (now (s .entry)) at (leBytes 2 x) ⌝ }
-{
-    s[at] = (x % 256) as u8;
-    s[at + 1] = (x / 256 % 256) as u8;
-}
-
-// In four bytes.
-fn put4(s: &mut [u8], at: usize, x: u64)
-    requires { ⌜ at + 4 ≤ length (now s) ⌝ }
-    ensures { λ _. ⌜ now (s .exit) ≡ written (now (s .entry)) at (leBytes 4 x) ⌝ }
-{
-    put2(s, at, x);
-    put2(s, at + 2, x / 65536);
-}
-
-// In eight bytes.
-fn put8(s: &mut [u8], at: usize, x: u64)
-    requires { ⌜ at + 8 ≤ length (now s) ⌝ }
-    ensures { λ _. ⌜ now (s .exit) ≡ written (now (s .entry)) at (leBytes 8 x) ⌝ }
-{
-    put4(s, at, x);
-    put4(s, at + 4, x / 4294967296);
-}
 
 // Writes the first n tags, each in four bytes.
 fn put_tags(s: &mut [u8], at: usize, tags: &[u32], n: usize)
@@ -132,4 +80,35 @@ pub fn write_image(
     put_args(image, 4 + 4 * n, args, n);
     put_names(image, 4 + 12 * n, names, m);
     4 + 12 * n + m
+}
+
+// A node as it lies in the image.
+pub struct Node {
+    pub kind: u64,
+    pub size: usize,
+    pub arg: u64,
+}
+
+// Node i of an image of n nodes.
+pub fn node_at(image: &[u8], n: usize, i: usize) -> Node
+    requires { ⌜ (4 + 12 * n ≤ length (now image)) × (i < n) ⌝ }
+    ensures { λ r. ⌜ nodeOf r ≡ nodeAt (now (image .entry)) n i ⌝ }
+{
+    let tag = le4(image, 4 + 4 * i);
+    let arg = le8(image, 4 + 4 * n + 8 * i);
+    Node {
+        kind: tag % 256,
+        size: (tag / 256) as usize,
+        arg,
+    }
+}
+
+// The bytes of a name in an image of n nodes, from the argument of its node.
+pub fn name_of(image: &[u8], n: usize, arg: u64) -> &[u8]
+    requires { ⌜ 4 + 12 * n + arg / 65536 + arg % 65536 ≤ length (now image) ⌝ }
+    ensures { λ r. ⌜ now r ≡ take (arg % 65536) (drop (4 + 12 * n + arg / 65536) (now (image .entry))) ⌝ }
+{
+    let start = 4 + 12 * n + (arg / 65536) as usize;
+    let end = start + (arg % 65536) as usize;
+    &image[start..end]
 }

@@ -4,12 +4,11 @@ use mathlib.Core.Bool.{cond}
 use mathlib.Core.List.{List, [], _∷_, _++_}
 use lib.Dec.{eqb}
 use lib.ListN.{length, take, replicate}
-use Rattle.ascii.specs.Text.{bytes, part, runEnd}
-use Rattle.ascii.specs.Search.{behindLast}
+use Rattle.slices.specs.Text.{bytes, part, runEnd, other}
+use Rattle.slices.specs.Search.{behindLast}
 use Rattle.ascii.specs.Letters.{within}
 use Rattle.refusals.specs.Refusals.{rowOf}
-use Rattle.words.specs.Token.{other}
-use Rattle.numbers.specs.Digits.{digitsOf}
+use Rattle.decimal.specs.Digits.{digitsOf}
 
 abbrev pub lineEnd : List ℕ
 lineEnd = 10 ∷ []

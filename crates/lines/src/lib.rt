@@ -1,14 +1,14 @@
-// Lines that a program prints for a person, each added to a text from a position on.
+// Lines for a person: numbers, meanings, and a text with a mark under a place.
 ghost use mathlib.Core.Path.{_≡_};
-ghost use Prim.Native.Nat.{_+_, _*_, _≤_};
+ghost use Prim.Native.Nat.{_+_, _≤_, _*_};
 ghost use lib.ListN.{length, replicate};
-ghost use Rattle.ascii.specs.Written.{Put};
+ghost use Rattle.slices.specs.Written.{Put};
 ghost use Rattle.lines.specs.Lines.{numbersLine, trimmed, meaningLine, shown, shownAll, markedLine};
-use ascii::append;
-use ascii::behind_last;
-use numbers::digits::append_digits;
+use decimal::digits::append_digits;
 use refusals::row_of;
-use words::mark_at;
+use slices::append;
+use slices::behind_last;
+use slices::mark_at;
 
 // A line of a word and two numbers.
 pub fn append_numbers(text: &mut [u8], at: usize, word: &[u8], a: u64, b: u64) -> usize

@@ -4,16 +4,16 @@ use mathlib.Core.Bool.{cond}
 use mathlib.Core.List.{List, [], _++_}
 use lib.Dec.{ltb}
 use lib.ListN.{length}
-use Rattle.ascii.specs.Text.{bytes}
-use Rattle.numbers.specs.Digits.{digitsOf}
+use Rattle.slices.specs.Text.{bytes}
+use Rattle.decimal.specs.Digits.{digitsOf}
 use Rattle.lines.specs.Lines.{lineEnd}
-use Rattle.stores.specs.Stores.{Entry}
-use Rattle.stores.specs.TableBytes.{tableOf}
-use Rattle.safety.specs.Check.{judgeOf}
-use Rattle.report.specs.Report.{detail, verdictText}
-use Rattle.arguments.specs.declared.Fault.{Fault}
-use Rattle.arguments.specs.declared.Fault.the-variants.{NoColon, NoMode, LongName, ForeignName}
-use Rattle.arguments.specs.Arguments.{Stores, stores, wrongAt, split, storesIn}
+use Rattle.store_table.specs.Stores.{Entry}
+use Rattle.store_table.specs.TableBytes.{tableOf}
+use Rattle.verdict.specs.Check.{judgeOf}
+use Rattle.details.specs.Report.{detail, verdictText}
+use Rattle.store_args.specs.declared.Fault.{Fault}
+use Rattle.store_args.specs.declared.Fault.the-variants.{NoColon, NoMode, LongName, ForeignName}
+use Rattle.store_args.specs.Arguments.{Stores, stores, wrongAt, split, storesIn}
 
 -- ---- bad arguments
 

@@ -1,16 +1,16 @@
 // The page that `rulejudge` prints of a rule's text and of stores given as arguments.
 ghost use Prim.Native.Nat.{_+_, _≤_};
 ghost use lib.ListN.{length};
-ghost use Rattle.ascii.specs.Written.{Put};
+ghost use Rattle.slices.specs.Written.{Put};
 ghost use Rattle.page.specs.Page.{faultText, argumentLine, pageOf};
-use arguments::Fault;
-use arguments::Made;
-use arguments::TABLE_BYTES;
-use arguments::count_args;
-use arguments::table_of;
-use ascii::append;
-use numbers::digits::append_digits;
+use args_table::table_of;
+use decimal::digits::append_digits;
 use report::append_judged;
+use slices::append;
+use store_args::Fault;
+use store_args::Made;
+use store_args::TABLE_BYTES;
+use store_args::count_args;
 
 // The bytes that any page fits in.
 pub const PAGE_BYTES: usize = 32_768;
@@ -59,7 +59,7 @@ pub fn report(text: &[u8], args: &[u8], page: &mut [u8]) -> usize
     match table_of(args, &mut table) {
         Made::Table(size) => {
             let stores = &table[..size];
-            append_judged(page, text, stores, safety::judge(text, stores))
+            append_judged(page, text, stores, judge::judge(text, stores))
         }
         Made::Wrong { index, fault } => append_argument(page, index, fault),
     }

@@ -1,73 +1,27 @@
 // The parser: or calls and, and calls primary, primary calls or again. Each appends to three lent arrays: a tag and an argument
 // for each node, and the bytes of the names.
-ghost use mathlib.Core.Path.{_≡_};
-ghost use mathlib.Core.List.{_++_};
-ghost use Prim.Native.Nat.{ℕ, _+_, _*_, _-_, _≤_, _<_, _%_};
-ghost use lib.Dec.{eqb};
-ghost use lib.ListN.{length, getD, set, take};
-ghost use Rattle.ascii.specs.Text.{part};
-ghost use Rattle.refusals.specs.Refusals.{refusal};
-ghost use Rattle.words.specs.Token.{tokensFrom};
-ghost use Rattle.image.specs.Encode.{tag};
+ghost use Prim.Native.Nat.{ℕ, _+_, _*_};
+ghost use Rattle.tokens.specs.Token.{tokensFrom};
 ghost use Rattle.grammar.specs.Grammar.{orIn, andIn, primaryIn};
-ghost use Rattle.grammar.specs.Heads.{left};
-ghost use Rattle.parser.specs.Parses.{arrays, Before, Parsed, keepIf};
+ghost use Rattle.grammar.specs.Inner.Heads.{left};
+ghost use Rattle.nodes.specs.Inner.Parses.{arrays, Before, Parsed};
 use grammar::Head;
 use grammar::combinator_arg;
 use grammar::combinator_kind;
 use grammar::test_arg;
 use grammar::test_kind;
 use heads::head_at;
-use refusals::Refusal;
-use words::Next;
-use words::Token;
-use words::bracket_at;
-use words::place_of;
-use words::sign_at;
-use words::token_at;
-
-// Where the text goes on, and how many nodes and name bytes stand; or a refusal.
-pub enum Reach {
-    Done { next: usize, n: usize, m: usize },
-    Refused(Refusal),
-}
-
-pub fn refuse(number: u8, place: usize) -> Reach
-    ensures { λ r. ⌜ r ≡ Reach.Refused (refusal number place) ⌝ }
-{
-    Reach::Refused(Refusal { number, place })
-}
-
-// How many of n nodes stay where a chain goes on: the last one goes where it is of the chain's kind.
-fn kept(tags: &[u32], n: usize, kind: u32) -> usize
-    requires { ⌜ (0 < n) × (n ≤ length (now tags)) ⌝ }
-    ensures { λ r. ⌜ (r ≡ keepIf (eqb (getD (now (tags .entry)) (n - 1) 0 % 256) kind) n) × ((r ≤ n) × (n ≤ r + 1)) ⌝ }
-{
-    if tags[n - 1] % 256 == kind { n - 1 } else { n }
-}
-
-// Writes node n: its kind, how many nodes it counts, its argument.
-fn push(tags: &mut [u32], args: &mut [u64], n: usize, kind: u32, size: usize, arg: u64)
-    requires { ⌜ (n < length (now tags)) × ((n < length (now args)) × ((kind < 256) × (size ≤ 65536))) ⌝ }
-    ensures { λ _. ⌜ (now (tags .exit) ≡ set (now (tags .entry)) n (tag kind size)) × (now (args .exit) ≡ set (now (args .entry)) n arg) ⌝ }
-{
-    tags[n] = kind + 256 * (size as u32);
-    args[n] = arg;
-}
-
-// Writes a name, a part of the text, behind the first m name bytes.
-fn put_name(text: &[u8], start: usize, end: usize, names: &mut [u8], m: usize)
-    requires { ⌜ (start ≤ end) × ((end ≤ length (now text)) × (m + (end - start) ≤ length (now names))) ⌝ }
-    ensures { λ _. ⌜ take (m + (end - start)) (now (names .exit)) ≡ take m (now (names .entry)) ++ part (now (text .entry)) start end ⌝ }
-{
-    let mut i = start;
-    let mut j = m;
-    while i < end {
-        names[j] = text[i];
-        i += 1;
-        j += 1;
-    }
-}
+use nodes::Reach;
+use nodes::kept;
+use nodes::push;
+use nodes::put_name;
+use nodes::refuse;
+use signs::bracket_at;
+use signs::place_of;
+use signs::sign_at;
+use tokens::Next;
+use tokens::Token;
+use tokens::token_at;
 
 // or: and-expressions, joined by or-signs.
 pub fn parse_or(

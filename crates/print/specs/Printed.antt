@@ -6,9 +6,9 @@ use mathlib.Core.Option.{Option, none, some}
 use lib.Dec.{ltb}
 use lib.ListN.{length, drop}
 use Rattle.refusals.specs.Refusals.{refusal, shortBuffer, badImage}
-use Rattle.image.specs.Rule.{Rule}
+use Rattle.rules.specs.Rule.{Rule}
 use Rattle.image.specs.Decode.{decode}
-use Rattle.print.specs.Print.{textOf}
+use Rattle.print_text.specs.Print.{textOf}
 use Rattle.print.specs.declared.Printing.{Printing}
 use Rattle.print.specs.declared.Printing.the-variants.{Printed, Refused}
 

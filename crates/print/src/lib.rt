@@ -1,14 +1,10 @@
-// Printing: from a rule image to the rule's text in a lent buffer. The text's length is counted first; then it is put into the
-// buffer from its end to its beginning, a combinator's last child first.
-pub mod put;
-pub mod size;
-
+// Printing: the text of the rule that an image holds, into a lent buffer.
 ghost use mathlib.Core.Path.{_≡_};
 ghost use Rattle.print.specs.Printed.{outcome, printInto};
-use crate::put::put_rule;
-use crate::size::text_size;
-use image::le2;
-use image::valid::is_image;
+use image_test::is_image;
+use little_endian::le2;
+use print_put::put_rule;
+use print_size::text_size;
 use refusals::Refusal;
 
 // What printing answers: the length of the text written, or a refusal.

@@ -1,37 +1,22 @@
 // The C interface: five calls on bytes and numbers, each answered by one number.
 ghost use mathlib.Core.Path.{_≡_};
-ghost use Rattle.expressions.specs.Outcome.{readInto};
+ghost use Rattle.read.specs.Outcome.{readInto};
 ghost use Rattle.decide.specs.Decide.{decideOf};
-ghost use Rattle.safety.specs.Check.{checkOf, judgeOf};
+ghost use Rattle.verdict.specs.Check.{checkOf, judgeOf};
 ghost use Rattle.print.specs.Printed.{printInto};
-ghost use Rattle.prune.specs.Answers.{packed, ofReading, ofDecision, ofVerdict, ofPrinting};
+ghost use Rattle.answers.specs.Answers.{ofReading, ofDecision, ofVerdict, ofPrinting};
+use answers::answer;
+use answers::of_verdict;
 use decide::Decision;
-use expressions::Reading;
 use print::Printing;
-use safety::Verdict;
-
-// An answer: a refusal's number, or 0, times 2^32, and a value below 2^32.
-fn answer(number: u8, value: usize) -> u64
-    ensures { λ r. ⌜ r ≡ packed number value ⌝ }
-{
-    number as u64 * 4_294_967_296 + (value % 4_294_967_296) as u64
-}
-
-fn of_verdict(verdict: Verdict) -> u64
-    ensures { λ r. ⌜ r ≡ ofVerdict verdict ⌝ }
-{
-    match verdict {
-        Verdict::Pass => 0,
-        Verdict::Refused(f) => answer(f.number, f.place),
-    }
-}
+use read::Reading;
 
 // Reads a text into a rule image; the value is the image's length.
 #[no_mangle]
 pub extern "C" fn prune_read(text: &[u8], image: &mut [u8]) -> u64
     ensures { λ r. ⌜ (r ≡ ofReading (readInto (now (text .entry)) (now (image .entry)) .answer)) × (now (image .exit) ≡ readInto (now (text .entry)) (now (image .entry)) .image) ⌝ }
 {
-    match expressions::read(text, image) {
+    match read::read(text, image) {
         Reading::Read(size) => answer(0, size),
         Reading::Refused(f) => answer(f.number, f.place),
     }
@@ -62,7 +47,7 @@ pub extern "C" fn prune_check(image: &[u8], stores: &[u8]) -> u64
 pub extern "C" fn prune_judge(text: &[u8], stores: &[u8]) -> u64
     ensures { λ r. ⌜ r ≡ ofVerdict (judgeOf (now (text .entry)) (now (stores .entry))) ⌝ }
 {
-    of_verdict(safety::judge(text, stores))
+    of_verdict(judge::judge(text, stores))
 }
 
 // Prints the rule of an image; the value is the text's length.

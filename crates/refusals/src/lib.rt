@@ -1,4 +1,4 @@
-// The refusals: the number of each cause, its word, and where it was met.
+// The refusals: a number, a word and a meaning for each cause.
 ghost use mathlib.Core.Path.{_≡_};
 ghost use Rattle.refusals.specs.Refusals.{rowOf};
 

@@ -9,7 +9,7 @@ use crate::outcome::accepted;
 use crate::outcome::compare;
 use crate::outcome::expected_refusal;
 use crate::outcome::refused;
-use safety::Verdict;
+use verdict::Verdict;
 
 // As an answer, a pass has the value 0.
 fn answer_of(verdict: Verdict) -> Answer {
@@ -45,5 +45,5 @@ pub fn check(line: &[u8], image: &[u8], stores: &[u8]) -> Outcome {
 
 // Runs the case of `judge` on a line, its text and its table of stores being there.
 pub fn judge(line: &[u8], text: &[u8], stores: &[u8]) -> Outcome {
-    run(line, safety::judge(text, stores))
+    run(line, judge::judge(text, stores))
 }

@@ -7,11 +7,11 @@ use crate::outcome::Answer;
 use crate::outcome::Outcome;
 use crate::outcome::accepted;
 use crate::outcome::refused;
-use expressions::Reading;
+use read::Reading;
 
 // What reading a text into a buffer of that length at the front of a memory answers.
 fn answered(text: &[u8], memory: &mut [u8], room: usize) -> Answer {
-    match expressions::read(text, front_mut(memory, room)) {
+    match read::read(text, front_mut(memory, room)) {
         Reading::Read(length) => accepted(length as u64),
         Reading::Refused(f) => refused(f),
     }

@@ -1,19 +1,16 @@
-// What a person is told of a rule's text: whether it reads, and the verdict on it with what it means.
-pub mod detail;
-pub mod reading;
-
+// What a person is told of a verdict on a text.
 ghost use Prim.Native.Nat.{_+_, _≤_};
 ghost use lib.ListN.{length};
-ghost use Rattle.ascii.specs.Written.{Put};
-ghost use Rattle.stores.specs.Stores.{Laid, entriesIn};
-ghost use Rattle.report.specs.Report.{verdictLine, passLine, verdictText};
-ghost use Rattle.report.specs.Room.{Ready};
-use crate::detail::append_detail;
-use crate::reading::append_refusal;
-use ascii::append;
+ghost use Rattle.slices.specs.Written.{Put};
+ghost use Rattle.store_table.specs.Stores.{Laid, entriesIn};
+ghost use Rattle.details.specs.Report.{verdictLine, passLine, verdictText};
+ghost use Rattle.details.specs.Inner.Room.{Ready};
+use details::append_detail;
 use lines::append_meaning;
-use safety::Verdict;
-use stores::count_of;
+use read_line::append_refusal;
+use slices::append;
+use store_table::count_of;
+use verdict::Verdict;
 
 // The first line.
 fn append_verdict(page: &mut [u8], at: usize, v: Verdict) -> usize

@@ -1,1 +1,1 @@
-// Worked examples of document 01, proved in specs/Sheet.antt. There is no code here.
+// The documents' examples, computed from the definitions.

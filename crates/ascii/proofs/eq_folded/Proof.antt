@@ -3,10 +3,10 @@ use mathlib.Core.Path.{_≡_, refl, sym, _∙_}
 use Prim.Native.Nat.{_-_}
 use native.Mathlib.Omega.{arith}
 use borrow.Author.Needs.{needs}
-use Rattle.ascii.specs.TestLaws.{is-so, is-not}
+use Rattle.ascii.proofs.Laws.TestLaws.{is-so, is-not}
 use lib.ListN.{length, drop}
 use Rattle.ascii.specs.Letters.{foldedIf, equalBy}
-use Rattle.ascii.specs.LettersLaws.{unlike, equal-end, equal-on, equal-off}
+use Rattle.ascii.proofs.Laws.LettersLaws.{unlike, equal-end, equal-on, equal-off}
 use Rattle.ascii.proofs.eq_folded.Statement.{statement}
 use Rattle.ascii.proofs.eq_folded.Tie as tie
 

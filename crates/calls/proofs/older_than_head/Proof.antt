@@ -1,11 +1,11 @@
 -- `calls::older_than_head` meets its contract: by the word that is due, the bracket behind it and the duration. Assumes nothing.
 use mathlib.Core.Path.{refl, sym, _∙_}
 use native.Mathlib.Omega.{arith}
-use Rattle.words.specs.Token.{nextOf}
-use Rattle.numbers.specs.Duration.{durationOf}
+use Rattle.tokens.specs.Token.{nextOf}
+use Rattle.durations.specs.Duration.{durationOf}
 use Rattle.grammar.specs.Grammar.{closeSign, olderThanHead}
-use Rattle.grammar.specs.TokenListLaws.{first-place, after-on, word-due, word-part, steps}
-use Rattle.grammar.specs.HeadLaws.{begins-refused, begins-leaf, told}
+use Rattle.grammar.proofs.Laws.TokenListLaws.{first-place, after-on, word-due, word-part, steps}
+use Rattle.grammar.proofs.Laws.HeadLaws.{begins-refused, begins-leaf, told}
 use Rattle.grammar.proofs.Tags.{no-word, no-sign}
 use borrow.Author.Needs.{needs}
 use Rattle.calls.proofs.older_than_head.Statement.{statement}

@@ -1,11 +1,11 @@
 -- `calls::readable_head` meets its contract: by the word that is due, its count and the bracket behind it. Assumes nothing.
 use mathlib.Core.Path.{refl, sym, _∙_}
 use native.Mathlib.Omega.{arith}
-use Rattle.words.specs.Token.{nextOf}
-use Rattle.numbers.specs.Count.{countOf}
+use Rattle.tokens.specs.Token.{nextOf}
+use Rattle.decimal.specs.Count.{countOf}
 use Rattle.grammar.specs.Grammar.{closeSign, readableHead}
-use Rattle.grammar.specs.TokenListLaws.{first-place, after-on, word-due, word-part, steps}
-use Rattle.grammar.specs.HeadLaws.{begins-refused, begins-leaf, told}
+use Rattle.grammar.proofs.Laws.TokenListLaws.{first-place, after-on, word-due, word-part, steps}
+use Rattle.grammar.proofs.Laws.HeadLaws.{begins-refused, begins-leaf, told}
 use Rattle.grammar.proofs.Tags.{no-word, no-sign}
 use borrow.Author.Needs.{needs}
 use Rattle.calls.proofs.readable_head.Statement.{statement}

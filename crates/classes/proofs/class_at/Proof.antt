@@ -1,6 +1,6 @@
 -- `classes::class_at` meets its contract, by the table's law. Assumes nothing.
 use borrow.Author.Needs.{needs}
-use Rattle.classes.specs.ClassLaws.{table-at}
+use Rattle.classes.proofs.Laws.ClassLaws.{table-at}
 use Rattle.classes.proofs.class_at.Statement.{statement}
 use Rattle.classes.proofs.class_at.Tie as tie
 

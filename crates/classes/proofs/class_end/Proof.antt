@@ -4,10 +4,10 @@ use Prim.Native.Nat.{_-_}
 use native.Mathlib.Omega.{arith}
 use borrow.Author.Needs.{needs}
 use lib.ListN.{length}
-use Rattle.ascii.specs.Text.{runEnd}
-use Rattle.ascii.specs.TextLaws.{end-out, end-stop, end-on}
+use Rattle.slices.specs.Text.{runEnd}
+use Rattle.slices.proofs.Laws.TextLaws.{end-out, end-stop, end-on}
 use Rattle.classes.specs.Class.{ofClass}
-use Rattle.classes.specs.ClassLaws.{of-class, not-of-class}
+use Rattle.classes.proofs.Laws.ClassLaws.{of-class, not-of-class}
 use Rattle.classes.proofs.class_end.Statement.{statement}
 use Rattle.classes.proofs.class_end.Tie as tie
 

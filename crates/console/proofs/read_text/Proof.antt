@@ -4,7 +4,7 @@ use Prim.Native.Nat.{_-_, _≤_}
 use native.Mathlib.Omega.{arith}
 use borrow.Author.Needs.{needs}
 use lib.ListN.{length}
-use Rattle.console.specs.Input.{sizeOf}
+use Rattle.console.specs.Inner.Input.{sizeOf}
 use Rattle.console.proofs.read_text.Statement.{statement}
 use Rattle.console.proofs.read_text.Tie as tie
 

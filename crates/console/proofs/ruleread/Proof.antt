@@ -2,8 +2,8 @@
 use mathlib.Core.Path.{sym, ap}
 use native.Mathlib.Omega.{arith}
 use lib.Seq.{length-take-le}
-use Rattle.console.specs.Input.{sizeOf}
-use Rattle.console.specs.WithinLaws.{put-within, put-counts}
+use Rattle.console.specs.Inner.Input.{sizeOf}
+use Rattle.console.proofs.Laws.WithinLaws.{put-within, put-counts}
 use borrow.Author.Needs.{needs}
 use Rattle.console.proofs.ruleread.Statement.{statement}
 use Rattle.console.proofs.ruleread.Tie as tie

@@ -5,13 +5,13 @@ use native.Mathlib.Omega.{arith}
 use borrow.Author.Needs.{needs}
 use borrow.Author.Tests.{not-true, not-false}
 use Rattle.image.specs.Decode.{isSome, decode}
-use Rattle.stores.specs.Stores.{isTable, isList, entriesIn, twinOf}
-use Rattle.stores.specs.StoresLaws.{well-made-laid}
-use Rattle.stores.specs.BlankLaws.{zeros-blank}
-use Rattle.stores.specs.declared.Twin.the-variants.{No}
+use Rattle.store_table.specs.Stores.{isTable, isList, entriesIn, twinOf}
+use Rattle.store_table.proofs.Laws.StoresLaws.{well-made-laid}
+use Rattle.store_table.proofs.Laws.BlankLaws.{zeros-blank}
+use Rattle.store_table.specs.declared.Twin.the-variants.{No}
 use Rattle.decide.specs.Decide.{saying, decideOf}
-use Rattle.decide.specs.InsideLaws.{image-inside, image-few}
-use Rattle.decide.specs.AnswerLaws.{refused-16, refused-17, refused-18, refused-19, answered}
+use Rattle.image.proofs.Laws.InsideLaws.{image-inside, image-few}
+use Rattle.decide.proofs.Laws.AnswerLaws.{refused-16, refused-17, refused-18, refused-19, answered}
 use Rattle.decide.proofs.decide.Statement.{statement}
 use Rattle.decide.proofs.decide.Tie as tie
 

@@ -3,8 +3,8 @@ use mathlib.Core.Path.{_∙_}
 use Prim.Native.Nat.{_≤_, _+_}
 use native.Mathlib.Omega.{arith}
 use borrow.Author.Needs.{needs}
-use Rattle.decide.specs.Subtree.{rowOf}
-use Rattle.decide.specs.ByLaws.{by-says}
+use Rattle.image.specs.Inner.Subtree.{rowOf}
+use Rattle.evaluate.proofs.Laws.ByLaws.{by-says}
 use Rattle.decide.proofs.rule_says_2048.Statement.{statement}
 use Rattle.decide.proofs.rule_says_2048.Tie as tie
 

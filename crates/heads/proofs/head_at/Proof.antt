@@ -1,9 +1,9 @@
 -- `heads::head_at` meets its contract: by the token that stands there. Assumes nothing.
 use mathlib.Core.Path.{refl, sym, _∙_}
 use native.Mathlib.Omega.{arith}
-use Rattle.words.specs.Token.{nextOf}
-use Rattle.grammar.specs.TokenListLaws.{word-part, steps}
-use Rattle.grammar.specs.HeadLaws.{begins-group, begins-refused, begins-within, head-next, too-deep, not-deep}
+use Rattle.tokens.specs.Token.{nextOf}
+use Rattle.grammar.proofs.Laws.TokenListLaws.{word-part, steps}
+use Rattle.grammar.proofs.Laws.HeadLaws.{begins-group, begins-refused, begins-within, head-next, too-deep, not-deep}
 use Rattle.grammar.proofs.Tags.{no-primary}
 use borrow.Author.Needs.{needs}
 use Rattle.heads.proofs.head_at.Statement.{statement}

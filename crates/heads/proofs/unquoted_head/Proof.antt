@@ -4,11 +4,11 @@ use mathlib.Core.Path.{refl, ap, _∙_}
 use mathlib.Core.Bool.{Bool}
 use mathlib.Core.List.{List}
 use native.Mathlib.Omega.{arith}
-use Rattle.ascii.specs.Text.{bytes}
+use Rattle.slices.specs.Text.{bytes}
 use Rattle.ascii.specs.Letters.{equalIgnoringCase}
 use Rattle.grammar.specs.Grammar.{openSign, functionOf, bareLeaf}
-use Rattle.grammar.specs.BehindLaws.{test-off, test-on, test-place}
-use Rattle.grammar.specs.HeadLaws.{begins-name, begins-leaf, begins-refused, begins-within, told, too-deep, not-deep}
+use Rattle.grammar.proofs.Laws.BehindLaws.{test-off, test-on, test-place}
+use Rattle.grammar.proofs.Laws.HeadLaws.{begins-name, begins-leaf, begins-refused, begins-within, told, too-deep, not-deep}
 use borrow.Author.Needs.{needs}
 use Rattle.heads.proofs.unquoted_head.Statement.{statement}
 use Rattle.heads.proofs.unquoted_head.Tie as tie

@@ -1,7 +1,7 @@
 -- `heads::word_head` meets its contract: by whether the word is quoted. Assumes nothing.
 use mathlib.Core.Path.{refl}
 use native.Mathlib.Omega.{arith}
-use Rattle.grammar.specs.HeadLaws.{begins-name}
+use Rattle.grammar.proofs.Laws.HeadLaws.{begins-name}
 use borrow.Author.Needs.{needs}
 use Rattle.heads.proofs.word_head.Statement.{statement}
 use Rattle.heads.proofs.word_head.Tie as tie

@@ -4,8 +4,8 @@ use Prim.Native.Nat.{_-_, _≤_}
 use native.Mathlib.Omega.{arith}
 use borrow.Author.Needs.{needs}
 use lib.ListN.{length, take}
-use Rattle.ascii.specs.Written.{written}
-use Rattle.ascii.specs.WrittenLaws.{written-none, copied-on}
+use Rattle.slices.specs.Written.{written}
+use Rattle.slices.proofs.Laws.WrittenLaws.{written-none, copied-on}
 use Rattle.image.proofs.put_names.Statement.{statement}
 use Rattle.image.proofs.put_names.Tie as tie
 

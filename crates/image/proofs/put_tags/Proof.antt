@@ -4,10 +4,10 @@ use Prim.Native.Nat.{_-_, _≤_}
 use native.Mathlib.Omega.{arith}
 use borrow.Author.Needs.{needs}
 use lib.ListN.{length, take}
-use Rattle.ascii.specs.Written.{written}
-use Rattle.image.specs.Bytes.{packed}
-use Rattle.ascii.specs.WrittenLaws.{written-none}
-use Rattle.image.specs.WrittenLaws.{packed-on}
+use Rattle.slices.specs.Written.{written}
+use Rattle.little_endian.specs.Bytes.{packed}
+use Rattle.slices.proofs.Laws.WrittenLaws.{written-none}
+use Rattle.little_endian.proofs.Laws.NumberWrittenLaws.{packed-on}
 use Rattle.image.proofs.put_tags.Statement.{statement}
 use Rattle.image.proofs.put_tags.Tie as tie
 

@@ -6,11 +6,11 @@ use native.Mathlib.Omega.{arith}
 use borrow.Author.Needs.{needs}
 use lib.ListN.{length, length-append}
 use lib.Seq.{length-take-le}
-use Rattle.ascii.specs.Written.{written}
-use Rattle.image.specs.Bytes.{leBytes, packed}
+use Rattle.slices.specs.Written.{written}
+use Rattle.little_endian.specs.Bytes.{leBytes, packed}
 use Rattle.image.specs.Encode.{imageOf}
-use Rattle.image.specs.BytesLaws.{length-packed}
-use Rattle.ascii.specs.WrittenLaws.{written-then}
+use Rattle.little_endian.proofs.Laws.BytesLaws.{length-packed}
+use Rattle.slices.proofs.Laws.WrittenLaws.{written-then}
 use Rattle.image.proofs.write_image.Statement.{statement}
 use Rattle.image.proofs.write_image.Tie as tie
 

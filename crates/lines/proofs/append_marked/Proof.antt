@@ -4,10 +4,10 @@ use Prim.Native.Nat.{_≤_}
 use native.Mathlib.Omega.{arith}
 use borrow.Author.Needs.{needs}
 use lib.ListN.{length, length-replicate}
-use Rattle.ascii.specs.Text.{part}
-use Rattle.ascii.specs.WrittenLaws.{put-behind}
+use Rattle.slices.specs.Text.{part}
+use Rattle.slices.proofs.Laws.WrittenLaws.{put-behind}
 use Rattle.lines.specs.Lines.{markedLine}
-use Rattle.lines.specs.LinesLaws.{LineOf, line-of}
+use Rattle.lines.proofs.Laws.LinesLaws.{LineOf, line-of}
 use Rattle.lines.proofs.append_marked.Statement.{statement}
 use Rattle.lines.proofs.append_marked.Tie as tie
 

@@ -5,9 +5,9 @@ use Prim.Native.Nat.{_≤_}
 use native.Mathlib.Omega.{arith}
 use borrow.Author.Needs.{needs}
 use lib.ListN.{length}
-use Rattle.ascii.specs.WrittenLaws.{put-behind}
+use Rattle.slices.proofs.Laws.WrittenLaws.{put-behind}
 use Rattle.lines.specs.Lines.{trimmed}
-use Rattle.lines.specs.LinesLaws.{trimmed-length}
+use Rattle.lines.proofs.Laws.LinesLaws.{trimmed-length}
 use Rattle.lines.proofs.append_meaning.Statement.{statement}
 use Rattle.lines.proofs.append_meaning.Tie as tie
 

@@ -4,8 +4,8 @@ use Prim.Native.Nat.{_≤_}
 use native.Mathlib.Omega.{arith}
 use borrow.Author.Needs.{needs}
 use lib.ListN.{length}
-use Rattle.ascii.specs.WrittenLaws.{put-behind}
-use Rattle.numbers.specs.DigitsLaws.{digits-short}
+use Rattle.slices.proofs.Laws.WrittenLaws.{put-behind}
+use Rattle.decimal.proofs.Laws.DigitsLaws.{digits-short}
 use Rattle.lines.proofs.append_numbers.Statement.{statement}
 use Rattle.lines.proofs.append_numbers.Tie as tie
 

@@ -5,10 +5,10 @@ use native.Mathlib.Omega.{arith}
 use borrow.Author.Needs.{needs}
 use lib.ListN.{length, take}
 use lib.Seq.{take-all}
-use Rattle.ascii.specs.Written.{written}
-use Rattle.ascii.specs.WrittenLaws.{written-none, copied-on}
+use Rattle.slices.specs.Written.{written}
+use Rattle.slices.proofs.Laws.WrittenLaws.{written-none, copied-on}
 use Rattle.lines.specs.Lines.{shownAll}
-use Rattle.lines.specs.LinesLaws.{shown-length, shown-at}
+use Rattle.lines.proofs.Laws.LinesLaws.{shown-length, shown-at}
 use Rattle.lines.proofs.append_shown.Statement.{statement}
 use Rattle.lines.proofs.append_shown.Tie as tie
 

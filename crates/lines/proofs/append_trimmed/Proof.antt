@@ -2,7 +2,7 @@
 use mathlib.Core.Path.{sym}
 use native.Mathlib.Omega.{arith}
 use borrow.Author.Needs.{needs}
-use Rattle.lines.specs.LinesLaws.{trimmed-length}
+use Rattle.lines.proofs.Laws.LinesLaws.{trimmed-length}
 use Rattle.lines.proofs.append_trimmed.Statement.{statement}
 use Rattle.lines.proofs.append_trimmed.Tie as tie
 

@@ -1,7 +1,7 @@
 -- `lines::shown_byte` meets its contract. Assumes nothing.
 use native.Mathlib.Omega.{arith}
 use borrow.Author.Tests.{ne-eqb}
-use Rattle.ascii.specs.SearchLaws.{is-within, is-below, is-above}
+use Rattle.slices.proofs.Laws.SearchLaws.{is-within, is-below, is-above}
 use Rattle.lines.specs.Lines.{shown}
 use Rattle.lines.proofs.shown_byte.Statement.{statement}
 use Rattle.lines.proofs.shown_byte.Tie as tie

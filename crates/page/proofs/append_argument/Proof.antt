@@ -3,9 +3,9 @@ use mathlib.Core.List.{append-assoc}
 use Prim.Native.Nat.{_≤_}
 use native.Mathlib.Omega.{arith}
 use lib.ListN.{length}
-use Rattle.ascii.specs.WrittenLaws.{put-behind}
-use Rattle.numbers.specs.DigitsLaws.{digits-short}
-use Rattle.page.specs.PageLaws.{fault-short}
+use Rattle.slices.proofs.Laws.WrittenLaws.{put-behind}
+use Rattle.decimal.proofs.Laws.DigitsLaws.{digits-short}
+use Rattle.page.proofs.Laws.PageLaws.{fault-short}
 use borrow.Author.Needs.{needs}
 use Rattle.page.proofs.append_argument.Statement.{statement}
 use Rattle.page.proofs.append_argument.Tie as tie

@@ -3,9 +3,9 @@
 use mathlib.Core.Path.{sym, _∙_}
 use native.Mathlib.Omega.{arith}
 use lib.Seq.{length-take-le}
-use Rattle.ascii.specs.WrittenLaws.{put-none}
-use Rattle.report.specs.DueLaws.{judged-due}
-use Rattle.page.specs.PageLaws.{Given, given, page-short, page-many, page-wrong, page-judged}
+use Rattle.slices.proofs.Laws.WrittenLaws.{put-none}
+use Rattle.details.proofs.Laws.DueLaws.{judged-due}
+use Rattle.page.proofs.Laws.PageLaws.{Given, given, page-short, page-many, page-wrong, page-judged}
 use borrow.Author.Needs.{needs}
 use Rattle.page.proofs.report.Statement.{statement}
 use Rattle.page.proofs.report.Tie as tie

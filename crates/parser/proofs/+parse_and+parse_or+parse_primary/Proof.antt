@@ -7,16 +7,16 @@ use borrow.Author.Needs.{needs}
 use borrow.Fn.Kinds.{In}
 use borrow.Fn.PlainCycle.{Measures, is, falls, and}
 use lib.ListN.{length}
-use Rattle.words.specs.Token.{tokensFrom}
+use Rattle.tokens.specs.Token.{tokensFrom}
 use Rattle.grammar.specs.Grammar.{andSign, orSign, commaSign, closeSign, Got, orIn, orMore, andIn, andMore}
-use Rattle.grammar.specs.Heads.{leafOf, joinOf, headNext, left}
-use Rattle.parser.specs.Parses.{arrays}
-use Rattle.grammar.specs.TokenListLaws.{first-place, after-off, comma-signed, close-signed}
-use Rattle.grammar.specs.BehindLaws.{test-off, test-on}
-use Rattle.grammar.specs.HeadLaws.{head-is, head-ahead}
-use Rattle.parser.specs.ArrayLaws.{front, still, long-after}
-use Rattle.image.specs.EncodeLaws.{leaf-kind, join-kind}
-use Rattle.parser.specs.ParseLaws.{
+use Rattle.grammar.specs.Inner.Heads.{leafOf, joinOf, headNext, left}
+use Rattle.nodes.specs.Inner.Parses.{arrays}
+use Rattle.grammar.proofs.Laws.TokenListLaws.{first-place, after-off, comma-signed, close-signed}
+use Rattle.grammar.proofs.Laws.BehindLaws.{test-off, test-on}
+use Rattle.grammar.proofs.Laws.HeadLaws.{head-is, head-ahead}
+use Rattle.nodes.proofs.Laws.ArrayLaws.{front, still, long-after}
+use Rattle.image.proofs.Laws.EncodeLaws.{leaf-kind, join-kind}
+use Rattle.nodes.proofs.Laws.ParseLaws.{
   gave-done,
   gave-refused,
   rebase,
@@ -57,14 +57,14 @@ use Rattle.grammar.proofs.combinator_kind.Reads as combinator-kind-reads
 use Rattle.heads.proofs.head_at.Reads as head-at-reads
 use Rattle.grammar.proofs.test_arg.Reads as test-arg-reads
 use Rattle.grammar.proofs.test_kind.Reads as test-kind-reads
-use Rattle.parser.proofs.kept.Reads as kept-reads
-use Rattle.parser.proofs.push.Reads as push-reads
-use Rattle.parser.proofs.put_name.Reads as put-name-reads
-use Rattle.parser.proofs.refuse.Reads as refuse-reads
-use Rattle.words.proofs.bracket_at.Reads as bracket-at-reads
-use Rattle.words.proofs.place_of.Reads as place-of-reads
-use Rattle.words.proofs.sign_at.Reads as sign-at-reads
-use Rattle.words.proofs.token_at.Reads as token-at-reads
+use Rattle.nodes.proofs.kept.Reads as kept-reads
+use Rattle.nodes.proofs.push.Reads as push-reads
+use Rattle.nodes.proofs.put_name.Reads as put-name-reads
+use Rattle.nodes.proofs.refuse.Reads as refuse-reads
+use Rattle.signs.proofs.bracket_at.Reads as bracket-at-reads
+use Rattle.signs.proofs.place_of.Reads as place-of-reads
+use Rattle.signs.proofs.sign_at.Reads as sign-at-reads
+use Rattle.tokens.proofs.token_at.Reads as token-at-reads
 use Rattle.parser.proofs.+parse_and+parse_or+parse_primary.{statement}
 use Rattle.parser.proofs.+parse_and+parse_or+parse_primary.Tie.{close}
 

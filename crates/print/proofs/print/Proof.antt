@@ -5,8 +5,8 @@ use native.Mathlib.Omega.{arith}
 use borrow.Author.Needs.{needs}
 use borrow.Author.Tests.{not-true, not-false}
 use Rattle.image.specs.Decode.{isSome, decode}
-use Rattle.decide.specs.InsideLaws.{image-inside, image-few}
-use Rattle.print.specs.PrintedLaws.{refused-16, refused-1, printed}
+use Rattle.image.proofs.Laws.InsideLaws.{image-inside, image-few}
+use Rattle.print.proofs.Laws.PrintedLaws.{refused-16, refused-1, printed}
 use Rattle.print.proofs.print.Statement.{statement}
 use Rattle.print.proofs.print.Tie as tie
 

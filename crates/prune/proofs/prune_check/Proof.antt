@@ -1,7 +1,7 @@
 -- `prune::prune_check` meets its contract. Assumes nothing.
 use mathlib.Core.Path.{ap, _∙_}
 use borrow.Author.Needs.{needs}
-use Rattle.prune.specs.Answers.{ofVerdict}
+use Rattle.answers.specs.Answers.{ofVerdict}
 use Rattle.prune.proofs.prune_check.Statement.{statement}
 use Rattle.prune.proofs.prune_check.Tie as tie
 

@@ -1,7 +1,7 @@
 -- `prune::prune_decide` meets its contract. Assumes nothing.
 use mathlib.Core.Path.{sym, ap, _∙_}
 use borrow.Author.Needs.{needs}
-use Rattle.prune.specs.Answers.{ofDecision}
+use Rattle.answers.specs.Answers.{ofDecision}
 use Rattle.prune.proofs.prune_decide.Statement.{statement}
 use Rattle.prune.proofs.prune_decide.Tie as tie
 

@@ -1,7 +1,7 @@
 -- `refusals::row_of` meets its contract: the constant table is the definition's, row for row. Assumes nothing.
 use native.Mathlib.Omega.{arith}
 use borrow.Author.Needs.{needs}
-use Rattle.refusals.specs.RefusalsLaws.{row-in, row-out, row-zero}
+use Rattle.refusals.proofs.Laws.RefusalsLaws.{row-in, row-out, row-zero}
 use Rattle.refusals.proofs.row_of.Statement.{statement}
 use Rattle.refusals.proofs.row_of.Tie as tie
 

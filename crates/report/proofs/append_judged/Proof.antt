@@ -1,8 +1,8 @@
 -- `report::append_judged` meets its contract: the verdict's line, and behind it what that verdict means. Assumes nothing.
 use native.Mathlib.Omega.{arith}
 use borrow.Author.Needs.{needs}
-use Rattle.ascii.specs.WrittenLaws.{put-behind}
-use Rattle.report.specs.ShortLaws.{verdict-short, meaning-short}
+use Rattle.slices.proofs.Laws.WrittenLaws.{put-behind}
+use Rattle.details.proofs.Laws.ShortLaws.{verdict-short, meaning-short}
 use Rattle.report.proofs.append_judged.Statement.{statement}
 use Rattle.report.proofs.append_judged.Tie as tie
 

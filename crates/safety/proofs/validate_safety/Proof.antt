@@ -5,9 +5,9 @@ use native.Mathlib.Omega.{arith}
 use borrow.Author.Needs.{needs}
 use borrow.Author.Tests.{not-true, not-false}
 use Rattle.image.specs.Decode.{isSome, decode}
-use Rattle.decide.specs.InsideLaws.{image-inside, image-few}
-use Rattle.safety.specs.GuaranteeLaws.{with-checked}
-use Rattle.safety.specs.CheckLaws.{refused-16, checks-image}
+use Rattle.image.proofs.Laws.InsideLaws.{image-inside, image-few}
+use Rattle.verdict.proofs.Laws.GuaranteeLaws.{with-checked}
+use Rattle.verdict.proofs.Laws.CheckLaws.{refused-16, checks-image}
 use Rattle.safety.proofs.validate_safety.Statement.{statement}
 use Rattle.safety.proofs.validate_safety.Tie as tie
 

@@ -1,0 +1,129 @@
+-- `args_table::fill` meets its contract: the arrays hold the stores of the arguments read so far. Assumes nothing.
+use mathlib.Core.Path.{_≡_, refl}
+use Prim.Native.Nat.{_-_, _≤_}
+use native.Mathlib.Omega.{arith}
+use borrow.Author.Needs.{needs}
+use lib.ListN.{length}
+use Rattle.slices.proofs.Laws.TextLaws.{end-within}
+use Rattle.slices.specs.Text.{other}
+use Rattle.store_args.specs.Inner.Filling.{arrays}
+use Rattle.store_args.proofs.Laws.SplitLaws.{walk-less}
+use Rattle.store_args.proofs.Laws.FillLaws.{Filling, fill-start, fill-end, fill-room, fill-bad, fill-on}
+use Rattle.args_table.proofs.fill.Statement.{statement}
+use Rattle.args_table.proofs.fill.Tie as tie
+
+abbrev Inv-loop : tie.InvT-loop
+Inv-loop args modes₀ lengths₀ names₀ k₀ at₀ used₀ modes lengths names k at used = Filling args (arrays modes lengths names) k at used × (length modes ≡ length modes₀) × (length lengths ≡ length lengths₀) × (length names ≡ length names₀)
+
+abbrev μ-loop : tie.MeasureT-loop
+μ-loop args modes₀ lengths₀ names₀ k₀ at₀ used₀ modes lengths names k at used = length args - at
+
+loop-holds : tie.Need-loop-holds Inv-loop μ-loop
+loop-holds c = (fill-start _ _, refl, refl, refl)
+
+mark-at-requires : tie.Need-mark-at-requires Inv-loop μ-loop
+mark-at-requires c κs = search needs
+
+-- the argument ends behind its beginning and within the text
+stop-in : (c : tie.After-mark-at Inv-loop μ-loop) → (c .before .before .loop .at ≤ c .mark-at .result) × (c .mark-at .result ≤ length (c .before .before .before .before .before .before .before .args .args .now))
+stop-in c = end-within (other 0) _ _ (omega arith) (c .mark-at .ensures)
+
+sub-fill-one : tie.Need-sub-fill-one Inv-loop μ-loop
+sub-fill-one c = omega (arith, stop-in c)
+
+part-fill-one-start : tie.Need-part-fill-one-start Inv-loop μ-loop
+part-fill-one-start c = omega (arith, stop-in c)
+
+part-fill-one-end : tie.Need-part-fill-one-end Inv-loop μ-loop
+part-fill-one-end c = omega (arith, stop-in c)
+
+fill-one-requires : tie.Need-fill-one-requires Inv-loop μ-loop
+fill-one-requires c κs =
+    let t = c .before .before .before .before .before in
+    let r = fill-room (t .before .loop .inv .0) (t .loop-test .taken) (t .before .before .before .before .before .before .pre .0) in
+    omega arith
+
+enum-known-fault : tie.Need-enum-known-fault Inv-loop μ-loop
+enum-known-fault c = search needs
+
+add-t23 : tie.Need-add-t23 Inv-loop μ-loop
+add-t23 c = search needs
+
+same-length : tie.Need-same-length Inv-loop μ-loop
+same-length c = search needs
+
+same-length-2 : tie.Need-same-length-2 Inv-loop μ-loop
+same-length-2 c = search needs
+
+same-length-3 : tie.Need-same-length-3 Inv-loop μ-loop
+same-length-3 c = search needs
+
+returns : tie.Need-returns Inv-loop μ-loop
+returns c =
+    let f = c .before .before .before .before .before .before .before .before .before in
+    let m = f .before .before .before .before .before in
+    let l = m .before .before .loop .inv .0 in
+    fill-bad l (m .before .loop-test .taken) (m .mark-at .ensures) _ (f .fill-one .ensures .bad _ (c .before .fault .given .1))
+
+enum-known-end : tie.Need-enum-known-end Inv-loop μ-loop
+enum-known-end c = search needs
+
+next-arg-requires : tie.Need-next-arg-requires Inv-loop μ-loop
+next-arg-requires c κs = search needs
+
+add-k : tie.Need-add-k Inv-loop μ-loop
+add-k c = search needs
+
+loop-less : tie.Need-loop-less Inv-loop μ-loop
+loop-less c = let t = c .before .before .before .before .before .before .before .before .before .before .before .before .before .before .before .before in walk-less (t .before .loop .inv .0 .walk) (t .loop-test .taken) (c .next-arg .ensures)
+
+loop-again : tie.Need-loop-again Inv-loop μ-loop
+loop-again c =
+    let f = c .before .before .before .before .before .before .before .before .before .before in
+    let m = f .before .before .before .before .before in
+    let l = m .before .before .loop .inv .0 in (
+      fill-on l (m .before .loop-test .taken) (m .mark-at .ensures) (f .fill-one .ensures) (c .before .before .end .given .1) (c .next-arg .ensures) (fill-one-requires (f .before) (f .fill-one .lifetimes)),
+      search needs,
+      search needs,
+      search needs,
+    )
+
+same-length-4 : tie.Need-same-length-4 Inv-loop μ-loop
+same-length-4 c = search needs
+
+same-length-5 : tie.Need-same-length-5 Inv-loop μ-loop
+same-length-5 c = search needs
+
+same-length-6 : tie.Need-same-length-6 Inv-loop μ-loop
+same-length-6 c = search needs
+
+returns-2 : tie.Need-returns-2 Inv-loop μ-loop
+returns-2 c = fill-end (c .before .loop .inv .0) (c .loop-test .left)
+
+pub fill-spec : {M : Type 1} → statement M
+fill-spec =
+    tie.close
+    (tie.spec
+    Inv-loop
+    μ-loop
+    loop-holds
+    mark-at-requires
+    sub-fill-one
+    part-fill-one-start
+    part-fill-one-end
+    fill-one-requires
+    enum-known-fault
+    add-t23
+    same-length
+    same-length-2
+    same-length-3
+    returns
+    enum-known-end
+    next-arg-requires
+    add-k
+    loop-less
+    loop-again
+    same-length-4
+    same-length-5
+    same-length-6
+    returns-2)

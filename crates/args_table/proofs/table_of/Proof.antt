@@ -1,0 +1,104 @@
+-- `args_table::table_of` meets its contract: the five parts of the table are written one behind the other. Assumes nothing.
+use Prim.Native.Nat.{_≤_}
+use native.Mathlib.Omega.{arith}
+use borrow.Author.Needs.{needs}
+use lib.ListN.{length-take}
+use Rattle.store_args.proofs.Laws.MadeLaws.{made-bad, made-room, made-table}
+use Rattle.args_table.proofs.table_of.Statement.{statement}
+use Rattle.args_table.proofs.table_of.Tie as tie
+
+slice-aggregate-fill : tie.Need-slice-aggregate-fill
+slice-aggregate-fill c = search needs
+
+slice-aggregate-fill-2 : tie.Need-slice-aggregate-fill-2
+slice-aggregate-fill-2 c = search needs
+
+slice-aggregate-fill-3 : tie.Need-slice-aggregate-fill-3
+slice-aggregate-fill-3 c = search needs
+
+fill-requires : tie.Need-fill-requires
+fill-requires c κs = search needs
+
+enum-known-index : tie.Need-enum-known-index
+enum-known-index c = search needs
+
+enum-known-count : tie.Need-enum-known-count
+enum-known-count c = search needs
+
+put2-requires : tie.Need-put2-requires
+put2-requires c κs = search needs
+
+put2-requires-2 : tie.Need-put2-requires-2
+put2-requires-2 c κs = search needs
+
+-- the stores and their names fit the arrays
+room : (c : tie.After-known-told2) → let g = c .before .count .given .0 in (g .0 ≤ 64) × (g .1 .0 ≤ 16_320)
+room c = made-room _ (c .before .before .before .before .before .before .fill .ensures) (c .before .count .given .1) (c .before .before .before .before .before .before .before .before .before .before .before .before .pre .0)
+
+array-share-prefix-modes : tie.Need-array-share-prefix-modes
+array-share-prefix-modes c = omega (arith, room (c .before .before .before .before .before .before .before .before .before))
+
+slice-aggregate-append : tie.Need-slice-aggregate-append
+slice-aggregate-append c = simp length-take (omega (arith, room (c .before .before .before .before .before .before .before .before .before .before)))
+
+append-requires : tie.Need-append-requires
+append-requires c κs = omega (arith, room (c .before .before .before .before .before .before .before .before .before .before), slice-aggregate-append c)
+
+array-share-prefix-lengths : tie.Need-array-share-prefix-lengths
+array-share-prefix-lengths c = omega (arith, room (c .before .before .before .before .before .before .before .before .before .before .before .before .before .before))
+
+slice-aggregate-append-2 : tie.Need-slice-aggregate-append-2
+slice-aggregate-append-2 c = simp length-take (omega (arith, room (c .before .before .before .before .before .before .before .before .before .before .before .before .before .before .before)))
+
+append-requires-2 : tie.Need-append-requires-2
+append-requires-2 c κs = omega (arith, room (c .before .before .before .before .before .before .before .before .before .before .before .before .before .before .before), slice-aggregate-append (c .before .before .before .before .before), slice-aggregate-append-2 c)
+
+array-share-prefix-names : tie.Need-array-share-prefix-names
+array-share-prefix-names c = omega (arith, room (c .before .before .before .before .before .before .before .before .before .before .before .before .before .before .before .before .before .before .before))
+
+slice-aggregate-append-3 : tie.Need-slice-aggregate-append-3
+slice-aggregate-append-3 c = simp length-take (omega (arith, room (c .before .before .before .before .before .before .before .before .before .before .before .before .before .before .before .before .before .before .before .before)))
+
+append-requires-3 : tie.Need-append-requires-3
+append-requires-3 c κs = omega (arith, room (c .before .before .before .before .before .before .before .before .before .before .before .before .before .before .before .before .before .before .before .before), slice-aggregate-append (c .before .before .before .before .before .before .before .before .before .before), slice-aggregate-append-2 (c .before .before .before .before .before), slice-aggregate-append-3 c)
+
+returns : tie.Need-returns
+returns c = made-bad (c .before .before .before .before .before .before .fill .ensures) _ (c .before .index .given .1)
+
+same-length : tie.Need-same-length
+same-length c = search needs
+
+returns-2 : tie.Need-returns-2
+returns-2 c =
+    let p₅ = c .before .before in
+    let p₄ = p₅ .before .before .before .before .before in
+    let p₃ = p₄ .before .before .before .before .before in
+    let p₂ = p₃ .before .before .before .before .before in
+    let p₁ = p₂ .before .before .before .before in
+    let g = p₁ .before .before in
+    made-table (g .before .before .before .before .before .before .fill .ensures) _ (g .before .count .given .1) (p₁ .put2 .ensures) (p₂ .put22 .ensures) (p₃ .append .ensures) (p₄ .append2 .ensures) (p₅ .append3 .ensures) (omega (arith, append-requires-3 (p₅ .before) (p₅ .append3 .lifetimes)))
+
+pub table-of-spec : {M : Type 1} → statement M
+table-of-spec =
+    tie.close
+    (tie.spec
+    slice-aggregate-fill
+    slice-aggregate-fill-2
+    slice-aggregate-fill-3
+    fill-requires
+    enum-known-index
+    enum-known-count
+    put2-requires
+    put2-requires-2
+    array-share-prefix-modes
+    slice-aggregate-append
+    append-requires
+    array-share-prefix-lengths
+    slice-aggregate-append-2
+    append-requires-2
+    array-share-prefix-names
+    slice-aggregate-append-3
+    append-requires-3
+    returns
+    same-length
+    returns-2)

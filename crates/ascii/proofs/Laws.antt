@@ -1,0 +1,2 @@
+pub mod LettersLaws
+pub mod TestLaws

@@ -1,0 +1,72 @@
+-- `confirmed::is_confirmed` meets its contract: a store of this name has the mark that its name has, and else each entry is looked at. Assumes nothing.
+use mathlib.Core.Path.{sym}
+use native.Mathlib.Omega.{arith}
+use borrow.Author.Needs.{needs}
+use Rattle.store_table.proofs.Laws.MemberLaws.{same-eq}
+use Rattle.store_table.proofs.Laws.EntryLaws.{has-at}
+use Rattle.store_table.proofs.Laws.WalkLaws.{entries-all}
+use Rattle.confirmed.proofs.is_confirmed.Statement.{statement}
+use Rattle.confirmed.proofs.is_confirmed.Tie as tie
+
+find-requires : tie.Need-find-requires
+find-requires c κs = search needs
+
+enum-known-k : tie.Need-enum-known-k
+enum-known-k c = search needs
+
+element-copy-out-result : tie.Need-element-copy-out-result
+element-copy-out-result c =
+    let f = c .before .before .before in
+    omega (arith, f .find .ensures .there _ (c .before .k .given .1), f .before .before .before .before .pre .0 .few)
+
+enum-told : tie.Need-enum-told
+enum-told c = search needs
+
+count-of-requires : tie.Need-count-of-requires
+count-of-requires c κs = search needs
+
+position-requires : tie.Need-position-requires
+position-requires c κs = search needs
+
+enum-told-2 : tie.Need-enum-told-2
+enum-told-2 c = search needs
+
+enum-told-3 : tie.Need-enum-told-3
+enum-told-3 c = search needs
+
+returns : tie.Need-returns
+returns c =
+    let f = c .before .before .before .before in
+    let t = f .find .ensures .there _ (c .before .before .k .given .1) .1 in
+    rw (same-eq _ _ (t .1 .1)) (f .before .before .before .before .pre .1 .1 .1 _ (t .0) (t .1 .0))
+
+returns-2 : tie.Need-returns-2
+returns-2 c =
+    let p = c .before .before in
+    let l = p .before .before .before .before .before in
+    let s = l .before .before .before in
+    let t = p .position .ensures .there _ (c .enum-told2 .given .1) in
+    let h = has-at _ (λ i. omega (arith, l .shared-slice-known3 .given i)) _ (c .enum-told2 .given .0 .0) (t .0) (t .1 .1 .0) in
+    sym (rw (same-eq _ _ (t .1 .1 .1), ← entries-all (s .args .list .now) _ (s .pre .1 .0) (p .before .count-of .ensures .0)) h)
+
+returns-3 : tie.Need-returns-3
+returns-3 c =
+    let p = c .before .before in
+    let s = p .before .before .before .before .before .before .before .before in
+    sym (rw (entries-all (s .args .list .now) _ (s .pre .1 .0) (p .before .count-of .ensures .0)) at (p .position .ensures .missing (c .enum-told3 .given .1)))
+
+pub is-confirmed-spec : {M : Type 1} → statement M
+is-confirmed-spec =
+    tie.close
+    (tie.spec
+    find-requires
+    enum-known-k
+    element-copy-out-result
+    enum-told
+    count-of-requires
+    position-requires
+    enum-told-2
+    enum-told-3
+    returns
+    returns-2
+    returns-3)

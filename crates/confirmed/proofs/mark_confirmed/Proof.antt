@@ -1,0 +1,138 @@
+-- `confirmed::mark_confirmed` meets its contract: the marks are those of the first k names of the list. Assumes nothing.
+use mathlib.Core.Logic.{⊎-elim}
+use Prim.Native.Nat.{_+_, _-_, _≤_}
+use native.Mathlib.Omega.{arith}
+use borrow.Author.Needs.{needs}
+use lib.ListN.{length, take}
+use lib.Seq.{take-all}
+use Rattle.store_table.specs.Stores.{entriesIn, namesOf}
+use Rattle.store_table.proofs.Laws.WalkLaws.{length-entries, standing-start, standing-within, standing-next, standing-here}
+use Rattle.store_table.specs.Inner.Index.{Marked, Standing}
+use Rattle.store_table.proofs.Laws.MarkLaws.{marked-start, marked-found, marked-none}
+use Rattle.confirmed.proofs.mark_confirmed.Statement.{statement}
+use Rattle.confirmed.proofs.mark_confirmed.Tie as tie
+
+abbrev Inv-loop : tie.InvT-loop
+Inv-loop stores list starts slots marks₀ count k₀ at₀ marks k at = Standing list count k at × Marked (entriesIn stores) (namesOf 0 255 (take k (entriesIn list))) marks
+
+abbrev μ-loop : tie.MeasureT-loop
+μ-loop stores list starts slots marks₀ count k₀ at₀ marks k at = count - k
+
+-- the name of the list's entry k lies within the bytes
+inside : (c : tie.After-wide Inv-loop μ-loop) → c .before .before .before .loop .at + c .wide .result ≤ length (c .before .before .before .before .before .before .before .args .list .now)
+inside c = omega (arith, standing-within (c .before .before .before .loop .inv .0) (c .before .before .loop-test .taken) (c .wide .ensures .0))
+
+count-of-requires : tie.Need-count-of-requires Inv-loop μ-loop
+count-of-requires c κs = search needs
+
+mul-at : tie.Need-mul-at Inv-loop μ-loop
+mul-at c = omega arith
+
+add-at : tie.Need-add-at Inv-loop μ-loop
+add-at c = omega arith
+
+loop-holds : tie.Need-loop-holds Inv-loop μ-loop
+loop-holds c =
+    let s = c .before .before .before in
+    (standing-start _ _ (s .pre .1 .0) (c .count-of .ensures .0), marked-start (entriesIn (s .args .stores .now)) (entriesIn (s .args .list .now)) (s .args .marks .now) (s .pre .1 .1 .1 .1))
+
+add-wide : tie.Need-add-wide Inv-loop μ-loop
+add-wide c = omega arith
+
+add-wide-2 : tie.Need-add-wide-2 Inv-loop μ-loop
+add-wide-2 c = omega arith
+
+shared-slice-read-wide : tie.Need-shared-slice-read-wide Inv-loop μ-loop
+shared-slice-read-wide c = omega arith
+
+wide-requires : tie.Need-wide-requires Inv-loop μ-loop
+wide-requires c κs = search needs
+
+add-find : tie.Need-add-find Inv-loop μ-loop
+add-find c = omega (arith, inside c)
+
+sub-find : tie.Need-sub-find Inv-loop μ-loop
+sub-find c = omega arith
+
+part-find-start : tie.Need-part-find-start Inv-loop μ-loop
+part-find-start c = omega arith
+
+part-find-end : tie.Need-part-find-end Inv-loop μ-loop
+part-find-end c = omega (arith, inside c)
+
+find-requires : tie.Need-find-requires Inv-loop μ-loop
+find-requires c κs = search needs
+
+enum-known-i : tie.Need-enum-known-i Inv-loop μ-loop
+enum-known-i c = search needs
+
+mark-requires : tie.Need-mark-requires Inv-loop μ-loop
+mark-requires c κs =
+    let f = c .before .before .before .before .find .ensures .there _ (c .before .before .i .given .1) in
+    omega (arith, c .mark-arg .given .0 .1, f .0)
+
+enum-told : tie.Need-enum-told Inv-loop μ-loop
+enum-told c = search needs
+
+add-at-2 : tie.Need-add-at-2 Inv-loop μ-loop
+add-at-2 c = omega (arith, inside (c .before .before .before))
+
+add-k : tie.Need-add-k Inv-loop μ-loop
+add-k c = omega arith
+
+loop-less : tie.Need-loop-less Inv-loop μ-loop
+loop-less c = omega arith
+
+loop-again : tie.Need-loop-again Inv-loop μ-loop
+loop-again c =
+    let w = c .before .before .before in
+    let l = w .before .before .before .loop in
+    let lt = w .before .before .loop-test .taken in
+    let e = standing-here (l .inv .0) lt (w .wide .ensures .0) in
+    let low = w .before .shared-slice-known3 .given (4 + l .k) in
+    let known = w .before .before .before .before .before .before in
+    let s = known .before in
+    let f = c .before .find .ensures in (
+      standing-next (l .inv .0) lt (w .wide .ensures .0),
+      ⊎-elim
+          (λ u.
+          let g = f .there _ (u .1 .given .1) in
+          rw (u .5, u .4 .ensures) (marked-found (s .args .stores .now) (entriesIn (s .args .list .now)) (l .k) (l .marks) (l .inv .1) e (omega arith) (s .pre .1 .1 .0) _ (g .1 .1 .0) (g .1 .1 .1) (omega (arith, u .3 .given .0 .1, g .0))))
+          (λ u.
+          rw (u .2)
+          (marked-none (s .args .stores .now) (entriesIn (s .args .list .now)) (l .k) (l .marks) (l .inv .1) e (omega arith) (s .pre .0) (λ i. omega (arith, known .shared-slice-known .given i)) (f .missing (u .1 .given .1))))
+          (c .match .came),
+    )
+
+returns : tie.Need-returns Inv-loop μ-loop
+returns c =
+    let s = c .before .before .before .before .before in
+    rw (take-all (c .before .loop .k) (entriesIn (s .args .list .now)) (omega (arith, length-entries (s .args .list .now) (s .pre .1 .0)))) at (c .before .loop .inv .1)
+
+pub mark-confirmed-spec : {M : Type 1} → statement M
+mark-confirmed-spec =
+    tie.close
+    (tie.spec
+    Inv-loop
+    μ-loop
+    count-of-requires
+    mul-at
+    add-at
+    loop-holds
+    add-wide
+    add-wide-2
+    shared-slice-read-wide
+    wide-requires
+    add-find
+    sub-find
+    part-find-start
+    part-find-end
+    find-requires
+    enum-known-i
+    mark-requires
+    enum-told
+    add-at-2
+    add-k
+    loop-less
+    loop-again
+    returns)

@@ -1,0 +1,100 @@
+-- `decimal::count::parse_count` meets its contract: the bytes left, behind the number so far, write the count. Assumes nothing.
+use mathlib.Core.Path.{_≡_, sym, _∙_}
+use mathlib.Core.Bool.{true}
+use Prim.Native.Nat.{_+_, _-_, _*_, _^_, _≤_, _<_}
+use native.Mathlib.Omega.{arith}
+use borrow.Author.Needs.{needs}
+use borrow.Author.Tests.{not-true, not-false}
+use lib.ListN.{length, drop, getD}
+use Rattle.ascii.specs.Letters.{isDigit}
+use Rattle.decimal.specs.Count.{countFrom, countOf}
+use Rattle.decimal.proofs.Laws.CountLaws.{count-none, count-start, count-over, count-end, count-on, count-off}
+use Rattle.decimal.proofs.count.parse_count.Statement.{statement}
+use Rattle.decimal.proofs.count.parse_count.Tie as tie
+
+abbrev Inv-loop : tie.InvT-loop
+Inv-loop word start value₀ i₀ value i = (i ≤ length word) × ((value < 2 ^ 64) × (countFrom value (drop i word) ≡ countOf word))
+
+abbrev μ-loop : tie.MeasureT-loop
+μ-loop word start value₀ i₀ value i = length word - i
+
+sign-end-requires : tie.Need-sign-end-requires Inv-loop μ-loop
+sign-end-requires c κs = search needs
+
+returns : tie.Need-returns Inv-loop μ-loop
+returns c = sym (count-none _ (c .before .sign-end .ensures) (omega arith))
+
+loop-holds : tie.Need-loop-holds Inv-loop μ-loop
+loop-holds c = (omega arith, (omega arith, count-start _ (c .before .sign-end .ensures) (omega arith)))
+
+shared-slice-read-b : tie.Need-shared-slice-read-b Inv-loop μ-loop
+shared-slice-read-b c = omega arith
+
+is-digit-requires : tie.Need-is-digit-requires Inv-loop μ-loop
+is-digit-requires c κs = search needs
+
+returns-2 : tie.Need-returns-2 Inv-loop μ-loop
+returns-2 c =
+    let l = c .before .before .before .before .loop in
+    sym (count-off (l .value) _ (l .i) (omega arith) (sym (c .before .is-digit .ensures) ∙ not-true _ (c .if2 .taken))) ∙ l .inv .1 .1
+
+-- the byte is a digit
+digit : (c : tie.Else2 Inv-loop μ-loop) → isDigit (getD (c .before .before .before .before .before .before .before .before .args .word .now) (c .before .before .before .before .loop .i) 0) ≡ true
+digit c = sym (c .before .is-digit .ensures) ∙ not-false _ (c .if2 .left)
+
+digit-of-requires : tie.Need-digit-of-requires Inv-loop μ-loop
+digit-of-requires c κs = digit c
+
+sub-if3 : tie.Need-sub-if3 Inv-loop μ-loop
+sub-if3 c = omega arith
+
+-- the bytes behind it, behind the number with it, write the count
+on : (c : tie.After-digit-of Inv-loop μ-loop) → let l = c .before .before .before .before .before .loop in let w = c .before .before .before .before .before .before .before .before .before .args .word .now in countFrom (l .value * 10 + c .digit-of .result) (drop (l .i + 1) w) ≡ countOf w
+on c =
+    let l = c .before .before .before .before .before .loop in
+    rw (c .digit-of .ensures) (sym (count-on (l .value) _ (l .i) (omega arith) (digit (c .before))) ∙ l .inv .1 .1)
+
+returns-3 : tie.Need-returns-3 Inv-loop μ-loop
+returns-3 c = sym (count-over _ _ (omega arith)) ∙ on (c .before)
+
+mul-value : tie.Need-mul-value Inv-loop μ-loop
+mul-value c = omega arith
+
+add-value : tie.Need-add-value Inv-loop μ-loop
+add-value c = omega arith
+
+add-i : tie.Need-add-i Inv-loop μ-loop
+add-i c = omega arith
+
+loop-less : tie.Need-loop-less Inv-loop μ-loop
+loop-less c = omega arith
+
+loop-again : tie.Need-loop-again Inv-loop μ-loop
+loop-again c = (omega arith, (omega arith, on (c .before)))
+
+returns-4 : tie.Need-returns-4 Inv-loop μ-loop
+returns-4 c =
+    let l = c .before .loop in
+    sym (count-end (l .value) _ (l .i) (omega arith) (l .inv .1 .0)) ∙ l .inv .1 .1
+
+pub parse-count-spec : {M : Type 1} → statement M
+parse-count-spec =
+    tie.close
+    (tie.spec
+    Inv-loop
+    μ-loop
+    sign-end-requires
+    returns
+    loop-holds
+    shared-slice-read-b
+    is-digit-requires
+    returns-2
+    digit-of-requires
+    sub-if3
+    returns-3
+    mul-value
+    add-value
+    add-i
+    loop-less
+    loop-again
+    returns-4)

@@ -1,0 +1,49 @@
+-- `details::append_confirmed` meets its contract: three parts in a row. Assumes nothing.
+use mathlib.Core.List.{append-assoc}
+use Prim.Native.Nat.{_≤_}
+use native.Mathlib.Omega.{arith}
+use borrow.Author.Needs.{needs}
+use lib.ListN.{length}
+use Rattle.slices.proofs.Laws.WrittenLaws.{put-behind}
+use Rattle.lines.proofs.Laws.LinesLaws.{shown-length}
+use Rattle.details.proofs.append_confirmed.Statement.{statement}
+use Rattle.details.proofs.append_confirmed.Tie as tie
+
+slice-aggregate-append : tie.Need-slice-aggregate-append
+slice-aggregate-append c = search needs
+
+append-requires : tie.Need-append-requires
+append-requires c κs = search needs
+
+append-shown-requires : tie.Need-append-shown-requires
+append-shown-requires c κs = search needs
+
+slice-aggregate-append-2 : tie.Need-slice-aggregate-append-2
+slice-aggregate-append-2 c = search needs
+
+append-requires-2 : tie.Need-append-requires-2
+append-requires-2 c κs = omega (arith, shown-length (c .before .before .before .before .before .before .before .before .before .before .before .before .before .args .name .now))
+
+same-length : tie.Need-same-length
+same-length c = search needs
+
+returns : tie.Need-returns
+returns c =
+    let e₃ = c .before .before in
+    let e₂ = e₃ .before .before .before .before .before in
+    let e₁ = e₂ .before .before .before .before in
+    let a = e₁ .before .before .before .before .before .args in
+    let h : a .at ≤ length (a .page .now) = omega arith in
+    simp append-assoc at (put-behind h (put-behind h (e₁ .append .ensures) (e₂ .append-shown .ensures)) (e₃ .append2 .ensures))
+
+pub append-confirmed-spec : {M : Type 1} → statement M
+append-confirmed-spec =
+    tie.close
+    (tie.spec
+    slice-aggregate-append
+    append-requires
+    append-shown-requires
+    slice-aggregate-append-2
+    append-requires-2
+    same-length
+    returns)

@@ -1,0 +1,100 @@
+-- `details::append_node` meets its contract: the text is read into a buffer, and the node's name stands in the image there.
+-- Assumes nothing.
+use mathlib.Core.Path.{_≡_, refl, sym}
+use Prim.Native.Nat.{_+_, _*_, _/_, _%_, _≤_}
+use native.Mathlib.Omega.{arith}
+use lib.ListN.{length, take, length-take}
+use lib.Seq.{length-take-le}
+use Rattle.slices.proofs.Laws.WrittenLaws.{put-none}
+use Rattle.lines.specs.Lines.{shownAll}
+use Rattle.image.proofs.Laws.CellLaws.{name-inside}
+use Rattle.read.proofs.Laws.FoundLaws.{Found, read-refused, read-rule}
+use Rattle.details.proofs.Laws.NodeNameLaws.{taken-short, taken-whole, name-past, name-here, name-not}
+use borrow.Author.Needs.{needs}
+use Rattle.details.proofs.append_node.Statement.{statement}
+use Rattle.details.proofs.append_node.Tie as tie
+
+-- the rule that the text reads as, in the buffer
+the-rule : (c : tie.After-known-told) → Found (c .before .before .before .before .before .before .before .before .args .text .now) (c .before .size .given .0 .0) (c .before .before .before .before .read .last .1 .0)
+the-rule c = read-rule _ _ (search needs) (c .before .before .before .before .read .ensures) (c .before .size .given .1)
+
+slice-aggregate-read : tie.Need-slice-aggregate-read
+slice-aggregate-read c = search needs
+
+read-requires : tie.Need-read-requires
+read-requires c κs = search needs
+
+enum-known-size : tie.Need-enum-known-size
+enum-known-size c = search needs
+
+enum-told : tie.Need-enum-told
+enum-told c = search needs
+
+returns : tie.Need-returns
+unfolding shownAll
+returns c = rw (read-refused _ _ (search needs) (c .before .before .before .read .ensures) (c .enum-told .given .1)) (put-none _ _)
+
+array-share-prefix-image : tie.Need-array-share-prefix-image
+array-share-prefix-image c = the-rule c .within
+
+slice-aggregate-written : tie.Need-slice-aggregate-written
+slice-aggregate-written c = sym (length-take-le _ _ (the-rule (c .before) .within))
+
+le2-requires : tie.Need-le2-requires
+le2-requires c κs = omega (arith, taken-whole (the-rule (c .before)) refl .inside .long)
+
+returns-2 : tie.Need-returns-2
+unfolding shownAll
+returns-2 c = rw (name-past (the-rule (c .before .before .before)) (c .before .le2 .ensures .0) (c .if1 .taken)) (put-none _ _)
+
+node-at-requires : tie.Need-node-at-requires
+node-at-requires c κs = (taken-whole (the-rule (c .before .before .before)) (c .before .le2 .ensures .0) .inside .long, c .if1 .left)
+
+-- a name's bytes lie in it
+name-in : (c : tie.After-node-at) → c .node-at .result .kind ≡ 0 → 4 + 12 * c .before .before .le2 .result + c .node-at .result .arg / 65536 + c .node-at .result .arg % 65536 ≤ length (take (c .before .before .before .before .before .size .given .0 .0) (c .before .before .before .before .before .before .before .before .read .last .1 .0))
+name-in c k =
+    let w = taken-whole (the-rule (c .before .before .before .before)) (c .before .before .le2 .ensures .0) in
+    name-inside _ _ _ (c .node-at .ensures) (w .inside .names) (c .before .if1 .left) k
+
+name-of-requires : tie.Need-name-of-requires
+name-of-requires c κs = name-in (c .before .before) (c .before .if2 .taken)
+
+append-shown-requires : tie.Need-append-shown-requires
+append-shown-requires c κs =
+    rw (c .name-of .ensures)
+    (simp length-take (omega (arith, taken-short (the-rule (c .before .before .before .before .before .before .before)), name-in (c .before .before .before) (c .before .before .if2 .taken))))
+
+same-length : tie.Need-same-length
+same-length c = search needs
+
+returns-3 : tie.Need-returns-3
+returns-3 c =
+    let d = c .before .before .before .before .before .before in
+    rw (name-here (the-rule (d .before .before .before .before)) (d .before .before .le2 .ensures .0) (d .node-at .ensures) (d .before .if1 .left) (c .before .before .before .before .before .if2 .taken) (c .before .before .before .name-of .ensures))
+    (c .before .before .append-shown .ensures)
+
+returns-4 : tie.Need-returns-4
+unfolding shownAll
+returns-4 c =
+    let d = c .before in
+    rw (name-not (the-rule (d .before .before .before .before)) (d .before .before .le2 .ensures .0) (d .node-at .ensures) (d .before .if1 .left) (c .if2 .left)) (put-none _ _)
+
+pub append-node-spec : {M : Type 1} → statement M
+append-node-spec =
+    tie.close
+    (tie.spec
+    slice-aggregate-read
+    read-requires
+    enum-known-size
+    enum-told
+    returns
+    array-share-prefix-image
+    slice-aggregate-written
+    le2-requires
+    returns-2
+    node-at-requires
+    name-of-requires
+    append-shown-requires
+    same-length
+    returns-3
+    returns-4)

@@ -1,0 +1,49 @@
+-- `details::append_place` meets its contract: the mark stands at the smaller of the place and the text's end. Assumes nothing.
+use Prim.Native.Nat.{_≤_}
+use native.Mathlib.Nat.{min-eq-left, min-eq-right, le-of-lt}
+use native.Mathlib.Omega.{arith}
+use borrow.Author.Needs.{needs}
+use lib.ListN.{length}
+use Rattle.slices.proofs.Laws.SearchLaws.{last-le}
+use Rattle.details.proofs.append_place.Statement.{statement}
+use Rattle.details.proofs.append_place.Tie as tie
+
+behind-last-requires : tie.Need-behind-last-requires
+behind-last-requires c κs = search needs
+
+-- the text's end lies in it
+within-text : (c : tie.After-behind-last) → c .behind-last .result ≤ length (c .before .before .before .args .text .now)
+within-text c = rw (c .behind-last .ensures) (last-le _ _ _)
+
+append-marked-requires : tie.Need-append-marked-requires
+append-marked-requires c κs = omega (arith, within-text (c .before .before))
+
+same-length : tie.Need-same-length
+same-length c = search needs
+
+returns : tie.Need-returns
+returns c =
+    let p = min-eq-left (le-of-lt (c .before .before .before .before .if1 .taken)) in
+    rw (← c .before .before .before .before .before .behind-last .ensures, p) (c .before .before .append-marked .ensures)
+
+append-marked-requires-2 : tie.Need-append-marked-requires-2
+append-marked-requires-2 c κs = omega (arith, within-text (c .before .before))
+
+same-length-2 : tie.Need-same-length-2
+same-length-2 c = search needs
+
+returns-2 : tie.Need-returns-2
+returns-2 c =
+    rw (← c .before .before .before .before .before .behind-last .ensures, min-eq-right (c .before .before .before .before .if1 .left)) (c .before .before .append-marked2 .ensures)
+
+pub append-place-spec : {M : Type 1} → statement M
+append-place-spec =
+    tie.close
+    (tie.spec
+    behind-last-requires
+    append-marked-requires
+    same-length
+    returns
+    append-marked-requires-2
+    same-length-2
+    returns-2)

@@ -1,0 +1,129 @@
+// What a refusal is about: a place in the text, a store, the age at which the rule evicts.
+ghost use Prim.Native.Nat.{min, _+_, _≤_};
+ghost use lib.ListN.{length};
+ghost use Rattle.slices.specs.Written.{Put};
+ghost use Rattle.grammar.specs.Reading.{readOf};
+ghost use Rattle.store_table.specs.Stores.{Laid, entriesIn};
+ghost use Rattle.verdict.specs.Check.{writeOnly};
+ghost use Rattle.lines.specs.Lines.{textEnd, markedLine, shownAll};
+ghost use Rattle.details.specs.Report.{nodeName, ageLine, confirmedLine, confirmedLines, detail};
+ghost use Rattle.details.specs.Inner.Room.{Room};
+use decimal::digits::append_digits;
+use image::name_of;
+use image::node_at;
+use lines::append_marked;
+use lines::append_shown;
+use little_endian::le2;
+use read::IMAGE_BYTES;
+use read::Reading;
+use refusals::Refusal;
+use slices::append;
+use slices::behind_last;
+use store_table::count_of;
+use store_table::wide;
+use verdict::OLDEST;
+
+// The line of a text in which a place stands, marked there, or behind the text's last visible byte.
+fn append_place(page: &mut [u8], at: usize, text: &[u8], place: usize) -> usize
+    requires { ⌜ (length (now text) ≤ 2048) × (at + 4099 ≤ length (now page)) ⌝ }
+    ensures { λ r. ⌜ Put (now (page .entry)) (now (page .exit)) at r (markedLine (now (text .entry)) (min place (textEnd (now (text .entry))))) ⌝ }
+{
+    let end = behind_last(text, text.len(), 33, 255);
+    if place < end {
+        return append_marked(page, at, text, place);
+    }
+    append_marked(page, at, text, end)
+}
+
+// The name of a node of the rule that a text reads as, by its index.
+fn append_node(page: &mut [u8], at: usize, text: &[u8], index: usize) -> usize
+    requires { ⌜ at + 26_628 ≤ length (now page) ⌝ }
+    ensures { λ r. ⌜ Put (now (page .entry)) (now (page .exit)) at r (shownAll (nodeName (readOf (now (text .entry))) index)) ⌝ }
+{
+    let mut image = [0u8; IMAGE_BYTES];
+    let Reading::Read(size) = read::read(text, &mut image) else {
+        return at;
+    };
+    let written = &image[..size];
+    let n = le2(written, 0) as usize;
+    if n <= index {
+        return at;
+    }
+    let node = node_at(written, n, index);
+    let kind = node.kind;
+    let arg = node.arg;
+    if kind == 0 {
+        return append_shown(page, at, name_of(written, n, arg));
+    }
+    at
+}
+
+// The age at which 21 and 22 are tested.
+fn append_age(page: &mut [u8], at: usize) -> usize
+    requires { ⌜ at + 64 ≤ length (now page) ⌝ }
+    ensures { λ r. ⌜ Put (now (page .entry)) (now (page .exit)) at r ageLine ⌝ }
+{
+    let word_end = append(page, at, b"age: ");
+    let age_end = append_digits(page, word_end, OLDEST);
+    append(page, age_end, b" ms, the largest\n")
+}
+
+// A line with a name that is confirmed.
+fn append_confirmed(page: &mut [u8], at: usize, name: &[u8]) -> usize
+    requires { ⌜ at + length (now name) + 12 ≤ length (now page) ⌝ }
+    ensures { λ r. ⌜ Put (now (page .entry)) (now (page .exit)) at r (confirmedLine (now (name .entry))) ⌝ }
+{
+    let word_end = append(page, at, b"confirmed: ");
+    let name_end = append_shown(page, word_end, name);
+    append(page, name_end, b"\n")
+}
+
+// A line for each write-only store.
+fn append_write_only(page: &mut [u8], at: usize, stores: &[u8]) -> usize
+    requires { ⌜ Laid (now stores) × (at + length (now stores) + 768 ≤ length (now page)) ⌝ }
+    ensures { λ r. ⌜ Put (now (page .entry)) (now (page .exit)) at r (confirmedLines (writeOnly (entriesIn (now (stores .entry))))) ⌝ }
+{
+    let count = count_of(stores);
+    let mut k = 0;
+    let mut start = 4 + 2 * count;
+    let mut end = at;
+    while k < count {
+        let len = wide(stores[4 + count + k]);
+        if stores[4 + k] == 2 {
+            end = append_confirmed(page, end, &stores[start..start + len]);
+        }
+        start += len;
+        k += 1;
+    }
+    end
+}
+
+// What a refusal of a text for these stores is about.
+pub fn append_detail(page: &mut [u8], at: usize, text: &[u8], stores: &[u8], f: Refusal) -> usize
+    requires { ⌜ Room (now page) at (now text) (now stores) f ⌝ }
+    ensures { λ r. ⌜ Put (now (page .entry)) (now (page .exit)) at r (detail (now (text .entry)) (entriesIn (now (stores .entry))) f) ⌝ }
+{
+    let number = f.number;
+    let place = f.place;
+    match number {
+        3..=15 => append_place(page, at, text, place),
+        18 => {
+            let word_end = append(page, at, b"argument ");
+            let digits_end = append_digits(page, word_end, place as u64 + 1);
+            append(page, digits_end, b"\n")
+        }
+        20 => {
+            let name_end = append_node(page, at, text, place);
+            append(page, name_end, b"\n")
+        }
+        21 => {
+            let nothing_end = append(page, at, b"confirmed: nothing\n");
+            append_age(page, nothing_end)
+        }
+        22 => {
+            let names_end = append_write_only(page, at, stores);
+            append_age(page, names_end)
+        }
+        _ => at,
+    }
+}

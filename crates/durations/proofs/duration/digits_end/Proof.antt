@@ -1,0 +1,56 @@
+-- `durations::duration::digits_end` meets its contract: while the bytes are digits, the run ends where it did. Assumes nothing.
+use mathlib.Core.Path.{_≡_, refl, sym, _∙_}
+use Prim.Native.Nat.{_-_}
+use native.Mathlib.Omega.{arith}
+use borrow.Author.Needs.{needs}
+use lib.ListN.{length}
+use Rattle.ascii.specs.Letters.{isDigit}
+use Rattle.slices.specs.Text.{runEnd}
+use Rattle.slices.proofs.Laws.TextLaws.{end-out, run-stop, run-on}
+use Rattle.durations.proofs.duration.digits_end.Statement.{statement}
+use Rattle.durations.proofs.duration.digits_end.Tie as tie
+
+abbrev Inv-loop : tie.InvT-loop
+Inv-loop word at i₀ i = runEnd isDigit word i ≡ runEnd isDigit word at
+
+abbrev μ-loop : tie.MeasureT-loop
+μ-loop word at i₀ i = length word - i
+
+loop-holds : tie.Need-loop-holds Inv-loop μ-loop
+loop-holds c = refl
+
+shared-slice-read-is-digit : tie.Need-shared-slice-read-is-digit Inv-loop μ-loop
+shared-slice-read-is-digit c = omega arith
+
+is-digit-requires : tie.Need-is-digit-requires Inv-loop μ-loop
+is-digit-requires c κs = search needs
+
+returns : tie.Need-returns Inv-loop μ-loop
+returns c = let l = c .before .before .before .before .loop in run-stop _ _ (l .i) (omega arith) _ (l .inv) (c .before .is-digit .ensures) (c .if1 .taken)
+
+add-i : tie.Need-add-i Inv-loop μ-loop
+add-i c = omega arith
+
+loop-less : tie.Need-loop-less Inv-loop μ-loop
+loop-less c = omega arith
+
+loop-again : tie.Need-loop-again Inv-loop μ-loop
+loop-again c = let l = c .before .before .before .before .loop in run-on _ _ (l .i) (omega arith) _ (l .inv) (c .before .is-digit .ensures) (c .if1 .left)
+
+returns-2 : tie.Need-returns-2 Inv-loop μ-loop
+returns-2 c = let l = c .before .loop in sym (end-out _ _ (l .i) (c .loop-test .left)) ∙ l .inv
+
+pub digits-end-spec : {M : Type 1} → statement M
+digits-end-spec =
+    tie.close
+    (tie.spec
+    Inv-loop
+    μ-loop
+    loop-holds
+    shared-slice-read-is-digit
+    is-digit-requires
+    returns
+    add-i
+    loop-less
+    loop-again
+    returns-2)

@@ -1,0 +1,3 @@
+// Durations: the units, and a duration read.
+pub mod duration;
+pub mod unit;

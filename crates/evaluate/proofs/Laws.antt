@@ -1,0 +1,5 @@
+pub mod ByLaws
+pub mod JoinLaws
+pub mod MeaningLaws
+pub mod MonotoneLaws
+pub mod SubtreeLaws

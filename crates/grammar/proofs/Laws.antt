@@ -1,0 +1,10 @@
+pub mod AsciiLaws
+pub mod BehindLaws
+pub mod CleanLaws
+pub mod FitsLaws
+pub mod GrammarLaws
+pub mod HeadLaws
+pub mod NumberLaws
+pub mod SmallLaws
+pub mod TakenLaws
+pub mod TokenListLaws

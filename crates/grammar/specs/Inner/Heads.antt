@@ -1,0 +1,53 @@
+-- How the program's answer to the question how a primary begins is read, and what its numbers keep to. Assumes nothing.
+use Prim.Native.Nat.{ℕ, _≤_}
+use mathlib.Core.Path.{_≡_}
+use mathlib.Core.List.{List}
+use lib.ListN.{length}
+use Rattle.slices.specs.Text.{part}
+use Rattle.tokens.specs.declared.Next.{Next}
+use Rattle.tokens.specs.declared.Next.the-variants.{Off, To}
+use Rattle.tokens.specs.Token.{tokensFrom}
+use Rattle.rules.specs.Rule.{Leaf, named, olderThan, readable, Join, atLeast, all, any}
+use Rattle.grammar.specs.Grammar as grammar
+use Rattle.grammar.specs.declared.Test.{Test}
+use Rattle.grammar.specs.declared.Test.the-variants.{OlderThan, Readable}
+use Rattle.grammar.specs.declared.Combinator.{Combinator}
+use Rattle.grammar.specs.declared.Combinator.the-variants.{AtLeast, All, Any}
+use Rattle.grammar.specs.declared.Head.{Head}
+use Rattle.grammar.specs.declared.Head.the-variants.{Name, Leaf as Tested, Group, List as Listed, Refused}
+
+abbrev pub leafOf : Test → Leaf
+leafOf (OlderThan ms) = olderThan ms
+leafOf (Readable k) = readable k
+
+abbrev pub joinOf : Combinator → Join
+joinOf (AtLeast k) = atLeast k
+joinOf All = all
+joinOf Any = any
+
+-- the answer as the grammar has it: a position stands for the tokens from there on
+abbrev pub headOf : List ℕ → Head → grammar.Head
+headOf s (Name a b n) = grammar.aLeaf (named (part s a b)) (tokensFrom s n)
+headOf s (Tested t n) = grammar.aLeaf (leafOf t) (tokensFrom s n)
+headOf s (Group n) = grammar.aGroup (tokensFrom s n)
+headOf s (Listed c p n) = grammar.aList (joinOf c) p (tokensFrom s n)
+headOf s (Refused f) = grammar.refused f
+
+-- where the text goes on
+abbrev pub headNext : Head → Next
+headNext (Name a b n) = To n
+headNext (Tested t n) = To n
+headNext (Group n) = To n
+headNext (Listed c p n) = To n
+headNext (Refused f) = Off
+
+-- how many tokens are left from a position on
+abbrev pub left : List ℕ → ℕ → ℕ
+left s at = length (tokensFrom s at)
+
+-- The answer says what the grammar has. The text goes on at `lo` or behind it, with at most `most` tokens left; a name stands
+-- at `low` or behind it.
+pub record Begins (s : List ℕ) (low lo most : ℕ) (h : Head) (g : grammar.Head) : Type 0 where
+  pub says : headOf s h ≡ g
+  pub on : (n : ℕ) → headNext h ≡ To n → (lo ≤ n) × (n ≤ length s) × (left s n ≤ most)
+  pub name : (a b n : ℕ) → h ≡ Name a b n → (low ≤ a) × (a ≤ b) × (b ≤ n)

@@ -1,0 +1,10 @@
+pub mod BuildLaws
+pub mod DecodeLaws
+pub mod EncodeLaws
+pub mod FitLaws
+pub mod NameRunLaws
+pub mod RoundTripLaws
+pub mod StandingLaws
+pub mod TestLaws
+pub mod InsideLaws
+pub mod CellLaws

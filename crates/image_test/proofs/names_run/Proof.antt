@@ -1,0 +1,72 @@
+-- `image_test::names_run` meets its contract: after i turns, `end` is where the names of the first i nodes end, each at most 65,535 long.
+-- Assumes nothing.
+use mathlib.Core.Path.{_≡_, refl}
+use mathlib.Core.Option.{some}
+use mathlib.Core.Logic.{⊎-elim}
+use Prim.Native.Nat.{_-_, _*_, _≤_}
+use native.Mathlib.Numerals.{add-one}
+use native.Mathlib.Omega.{arith}
+use Rattle.image.specs.Decode.{nodeAt, nameEnd}
+use Rattle.image.proofs.Laws.NameRunLaws.{name-next, name-other, name-stop}
+use Rattle.image_test.proofs.names_run.Statement.{statement}
+use Rattle.image_test.proofs.names_run.Tie as tie
+
+abbrev Inv-loop : tie.InvT-loop
+Inv-loop image n m i₀ end₀ i end = (i ≤ n) × (end ≤ 65535 * i) × (nameEnd (nodeAt image n) i ≡ some end)
+
+abbrev μ-loop : tie.MeasureT-loop
+μ-loop image n m i₀ end₀ i end = n - i
+
+loop-holds : tie.Need-loop-holds Inv-loop μ-loop
+unfolding nameEnd
+loop-holds c = (omega arith, omega arith, refl)
+
+node-at-requires : tie.Need-node-at-requires Inv-loop μ-loop
+node-at-requires c κs = omega arith
+
+returns : tie.Need-returns Inv-loop μ-loop
+returns c =
+    name-stop _ _ _ (c .before .before .node-at .ensures) (c .before .before .before .before .loop .inv .2) (omega arith) (omega arith) _ _ (omega arith)
+
+add-end : tie.Need-add-end Inv-loop μ-loop
+add-end c = omega arith
+
+add-i : tie.Need-add-i Inv-loop μ-loop
+add-i c = omega arith
+
+loop-less : tie.Need-loop-less Inv-loop μ-loop
+loop-less c = omega arith
+
+loop-again : tie.Need-loop-again Inv-loop μ-loop
+loop-again c =
+    let l = c .before .before .before .loop in
+    let d = c .before .node-at in (
+      omega arith,
+      ⊎-elim (λ v. omega (arith, v .2)) (λ v. omega (arith, v .1)) (c .if1 .came),
+      rw add-one
+          (⊎-elim
+          (λ v. rw (v .2) (name-next _ _ _ (d .ensures) (l .inv .2) (omega arith) (omega arith)))
+          (λ v. rw (v .1) (name-other _ _ _ (d .ensures) (l .inv .2) (omega arith)))
+          (c .if1 .came)),
+    )
+
+returns-2 : tie.Need-returns-2 Inv-loop μ-loop
+returns-2 c =
+    let l = c .before .loop in
+    let q : l .i ≡ c .before .before .before .args .n = omega arith in
+    rw (rw q at (l .inv .2))
+
+pub names-run-spec : {M : Type 1} → statement M
+names-run-spec =
+    tie.close
+    (tie.spec
+    Inv-loop
+    μ-loop
+    loop-holds
+    node-at-requires
+    returns
+    add-end
+    add-i
+    loop-less
+    loop-again
+    returns-2)

@@ -1,0 +1,69 @@
+-- `judge::judge_in` meets its contract: the text is read into the buffer, and the image there is checked. Assumes nothing.
+use mathlib.Core.Path.{_≡_, refl, sym, _∙_}
+use mathlib.Core.Bool.{true}
+use Prim.Native.Nat.{_≤_}
+use native.Mathlib.Omega.{arith}
+use lib.ListN.{length, take}
+use lib.Seq.{length-take-le}
+use Rattle.image.specs.Decode.{isSome, decode}
+use Rattle.image.proofs.Laws.InsideLaws.{image-inside, image-few}
+use Rattle.verdict.proofs.Laws.GuaranteeLaws.{judges}
+use Rattle.verdict.proofs.Laws.CheckLaws.{written-image, checks-image}
+use borrow.Author.Needs.{needs}
+use Rattle.judge.proofs.judge_in.Statement.{statement}
+use Rattle.judge.proofs.judge_in.Tie as tie
+
+-- what was written is an image within the buffer
+the-image : (c : tie.After-known-told) → (let n = c .before .size .given .0 .0 in let i = c .before .before .before .before .before .read-fitting .last .1 .0 in (n ≤ length i) × (isSome (decode (take n i)) ≡ true))
+the-image c = written-image _ _ (c .before .before .before .before .before .read-fitting .ensures) (c .before .size .given .1)
+
+read-fitting-requires : tie.Need-read-fitting-requires
+read-fitting-requires c κs = search needs
+
+enum-known-size : tie.Need-enum-known-size
+enum-known-size c = search needs
+
+slice-reshare-prefix-written : tie.Need-slice-reshare-prefix-written
+slice-reshare-prefix-written c = the-image c .0
+
+slice-aggregate-written : tie.Need-slice-aggregate-written
+slice-aggregate-written c = sym (length-take-le _ _ (the-image (c .before) .0))
+
+le2-requires : tie.Need-le2-requires
+le2-requires c κs = omega (arith, image-inside _ (the-image (c .before) .1) refl .long)
+
+check-rule-requires : tie.Need-check-rule-requires
+check-rule-requires c κs = let i = the-image (c .before .before) .1 in (image-inside _ i (c .le2 .ensures .0), image-few _ i (c .le2 .ensures .0))
+
+enum-known-f : tie.Need-enum-known-f
+enum-known-f c = search needs
+
+same-length : tie.Need-same-length
+same-length c = search needs
+
+returns : tie.Need-returns
+returns c =
+    checks-image _ (the-image (c .before .before .before) .1) (c .before .le2 .ensures .0) _ (c .check-rule .ensures)
+    ∙ judges _ _ _ (c .before .before .before .before .before .before .before .before .read-fitting .ensures) (c .before .before .before .before .size .given .1)
+
+same-length-2 : tie.Need-same-length-2
+same-length-2 c = search needs
+
+returns-2 : tie.Need-returns-2
+returns-2 c = judges _ _ _ (c .before .before .before .before .before .read-fitting .ensures) (c .before .f .given .1)
+
+pub judge-in-spec : {M : Type 1} → statement M
+judge-in-spec =
+    tie.close
+    (tie.spec
+    read-fitting-requires
+    enum-known-size
+    slice-reshare-prefix-written
+    slice-aggregate-written
+    le2-requires
+    check-rule-requires
+    enum-known-f
+    same-length
+    returns
+    same-length-2
+    returns-2)

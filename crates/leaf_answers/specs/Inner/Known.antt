@@ -1,0 +1,31 @@
+-- What deciding knows of stores and list before it asks the leaves, and what the leaves have said. Assumes nothing.
+use Prim.Native.Nat.{ℕ, _<_}
+use mathlib.Core.Path.{_≡_}
+use mathlib.Core.List.{List}
+use lib.Dec.{leb}
+use lib.ListN.{getD}
+use Rattle.rules.specs.Rule.{Leaf}
+use Rattle.image.specs.Decode.{aLeaf, cellAt}
+use Rattle.store_table.specs.Stores.{Laid, countIn, entriesIn, namesOf}
+use Rattle.store_table.specs.Inner.Index.{Indexed, Marked}
+use Rattle.evaluate.specs.Evict.{World, leafSays}
+use Rattle.leaf_answers.specs.declared.View.{View}
+
+-- a table that is indexed, and a list whose names are marked in it
+pub record Known (stores list starts slots marks : List ℕ) : Type 0 where
+  pub table : Laid stores
+  pub listed : Laid list
+  pub indexed : Indexed stores (countIn stores) starts slots
+  pub marked : Marked (entriesIn stores) (namesOf 0 255 (entriesIn list)) marks
+
+-- the world that a list and a view show
+abbrev pub worldIn : List ℕ → View → World
+worldIn list v = record { age = v .age; ready = v .ready; names = namesOf 0 255 (entriesIn list) }
+
+-- of an image of n nodes, each leaf among the first i says evict in a world just where its number is at least `least`
+abbrev pub SaidTo : List ℕ → ℕ → List ℕ → ℕ → World → ℕ → Type 0
+SaidTo s n says least w i = (j : ℕ) → j < i → (l : Leaf) → cellAt s n j .what ≡ aLeaf l → leb least (getD says j 0) ≡ leafSays l w
+
+-- each leaf does
+abbrev pub Said : List ℕ → ℕ → List ℕ → ℕ → World → Type 0
+Said s n says least w = SaidTo s n says least w n

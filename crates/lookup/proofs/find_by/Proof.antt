@@ -1,0 +1,118 @@
+-- `lookup::find_by` meets its contract: an empty slot says that the name is none, and a slot's entry is one of the first. Assumes nothing.
+use mathlib.Core.Path.{sym, _∙_}
+use Prim.Native.Nat.{_+_, _-_, _≤_, _<_}
+use native.Mathlib.Omega.{arith}
+use borrow.Author.Needs.{needs}
+use lib.ListN.{length, getD}
+use Rattle.store_table.specs.Stores.{countIn}
+use Rattle.store_table.specs.Inner.Index.{Standing}
+use Rattle.store_table.proofs.Laws.WalkLaws.{standing-within, standing-here}
+use Rattle.store_table.proofs.Laws.IndexLaws.{finds-none, finds-at, slot-empty}
+use Rattle.lookup.proofs.find_by.Statement.{statement}
+use Rattle.lookup.proofs.find_by.Tie as tie
+
+-- the slot's entry is one of the first, and begins where the index says
+below : (c : tie.Else1) → c .before .wide .result - 1 < c .before .before .before .before .before .args .first
+below c =
+    let n = c .before .before .before .before .before in
+    omega (arith, n .pre .1 .1 .1 .1 .kept (n .args .hash))
+
+begins : (c : tie.Else1) → Standing (c .before .before .before .before .before .args .s .now) (countIn (c .before .before .before .before .before .args .s .now)) (c .before .wide .result - 1) (getD (c .before .before .before .before .before .args .starts .now) (c .before .wide .result - 1) 0)
+begins c = c .before .before .before .before .before .pre .1 .1 .1 .1 .begins _ (below c)
+
+-- its name lies within the bytes
+inside : (c : tie.After-wide2) → getD (c .before .before .before .before .before .before .before .before .before .args .starts .now) (c .before .before .before .before .before .wide .result - 1) 0 + c .wide2 .result ≤ length (c .before .before .before .before .before .before .before .before .before .args .s .now)
+inside c =
+    let n = c .before .before in
+    let b = c .before .before .before .before in
+    omega (arith, standing-within (begins b) (omega (arith, below b)) (c .wide2 .ensures .0 ∙ rw (n .count-of .ensures .0)))
+
+element-copy-out-wide : tie.Need-element-copy-out-wide
+element-copy-out-wide c = search needs
+
+wide-requires : tie.Need-wide-requires
+wide-requires c κs = search needs
+
+returns : tie.Need-returns
+returns c =
+    let p = c .before .before .before .before .before .pre in
+    finds-none (slot-empty (p .1 .1 .1 .1) _ (rw (← p .0) (sym (c .before .wide .ensures .0) ∙ c .if1 .taken)))
+
+sub-k : tie.Need-sub-k
+sub-k c = search needs
+
+mul-at : tie.Need-mul-at
+mul-at c = search needs
+
+element-copy-out-at : tie.Need-element-copy-out-at
+element-copy-out-at c = omega (arith, below c)
+
+cast-at : tie.Need-cast-at
+cast-at c = omega (arith, begins (c .before) .fills)
+
+count-of-requires : tie.Need-count-of-requires
+count-of-requires c κs = search needs
+
+add-wide : tie.Need-add-wide
+add-wide c = search needs
+
+add-wide-2 : tie.Need-add-wide-2
+add-wide-2 c = search needs
+
+shared-slice-read-wide : tie.Need-shared-slice-read-wide
+shared-slice-read-wide c = omega (arith, below (c .before .before .before))
+
+wide-requires-2 : tie.Need-wide-requires-2
+wide-requires-2 c κs = search needs
+
+add-same-name : tie.Need-add-same-name
+add-same-name c = omega (arith, inside c)
+
+sub-same-name : tie.Need-sub-same-name
+sub-same-name c = search needs
+
+part-same-name-start : tie.Need-part-same-name-start
+part-same-name-start c = search needs
+
+part-same-name-end : tie.Need-part-same-name-end
+part-same-name-end c = omega (arith, inside c)
+
+same-name-requires : tie.Need-same-name-requires
+same-name-requires c κs = search needs
+
+returns-2 : tie.Need-returns-2
+returns-2 c =
+    let w = c .before .before .before in
+    let b = w .before .before .before .before in
+    finds-at (below b) (standing-here (begins b) (omega (arith, below b)) (w .wide2 .ensures .0 ∙ rw (w .before .before .count-of .ensures .0))) (sym (c .before .same-name .ensures) ∙ c .if2 .taken)
+
+position-requires : tie.Need-position-requires
+position-requires c κs = search needs
+
+returns-3 : tie.Need-returns-3
+returns-3 c = search needs
+
+pub find-by-spec : {M : Type 1} → statement M
+find-by-spec =
+    tie.close
+    (tie.spec
+    element-copy-out-wide
+    wide-requires
+    returns
+    sub-k
+    mul-at
+    element-copy-out-at
+    cast-at
+    count-of-requires
+    add-wide
+    add-wide-2
+    shared-slice-read-wide
+    wide-requires-2
+    add-same-name
+    sub-same-name
+    part-same-name-start
+    part-same-name-end
+    same-name-requires
+    returns-2
+    position-requires
+    returns-3)

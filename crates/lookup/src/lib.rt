@@ -1,0 +1,62 @@
+// A name looked up in a table: by its index, or by a look at each entry.
+ghost use mathlib.Core.Path.{_≡_};
+ghost use Prim.Native.Nat.{_≤_, _<_};
+ghost use Rattle.store_table.specs.Stores.{Laid, countIn, entriesIn};
+ghost use Rattle.store_table.specs.Inner.Index.{Finds, hashOf, Indexed};
+use name_hash::hash_of;
+use store_table::Found;
+use store_table::count_of;
+use store_table::same_name;
+use store_table::wide;
+
+// The first entry of this name among the first `first`, by a look at each.
+pub fn position(name: &[u8], s: &[u8], first: usize) -> Found
+    requires { ⌜ Laid (now s) × (first ≤ countIn (now s)) ⌝ }
+    ensures { λ r. ⌜ Finds (now (name .entry)) (entriesIn (now (s .entry))) first r ⌝ }
+{
+    let count = count_of(s);
+    let mut k = 0;
+    let mut at = 4 + 2 * count;
+    while k < first {
+        let len = wide(s[4 + count + k]);
+        if same_name(name, &s[at..at + len]) {
+            return Found::At(k);
+        }
+        at += len;
+        k += 1;
+    }
+    Found::No
+}
+
+// An entry of this name among the first `first`, which are indexed; the name's hash is known.
+pub fn find_by(
+    name: &[u8],
+    hash: usize,
+    s: &[u8],
+    first: usize,
+    starts: &[u16; 64],
+    slots: &[u8; 512],
+) -> Found
+    requires { ⌜ (hash ≡ hashOf (now name)) × ((hash < 512) × (Laid (now s) × ((first ≤ countIn (now s)) × Indexed (now s) first (now starts) (now slots)))) ⌝ }
+    ensures { λ r. ⌜ Finds (now (name .entry)) (entriesIn (now (s .entry))) first r ⌝ }
+{
+    let slot = wide(slots[hash]);
+    if slot == 0 {
+        return Found::No;
+    }
+    let k = slot - 1;
+    let at = starts[k] as usize;
+    let len = wide(s[4 + count_of(s) + k]);
+    if same_name(name, &s[at..at + len]) {
+        return Found::At(k);
+    }
+    position(name, s, first)
+}
+
+// An entry of this name in an indexed table.
+pub fn find(name: &[u8], s: &[u8], starts: &[u16; 64], slots: &[u8; 512]) -> Found
+    requires { ⌜ Laid (now s) × Indexed (now s) (countIn (now s)) (now starts) (now slots) ⌝ }
+    ensures { λ r. ⌜ Finds (now (name .entry)) (entriesIn (now (s .entry))) (countIn (now (s .entry))) r ⌝ }
+{
+    find_by(name, hash_of(name), s, count_of(s), starts, slots)
+}

@@ -1,0 +1,386 @@
+-- Laws of the parser's promises: an answer by its case, a chain turn by turn, a primary by how it begins, a list item by item.
+-- Assumes nothing.
+use mathlib.Core.Path.{_≡_, refl, sym, ap, subst, _∙_}
+use mathlib.Core.List.{List, [], _∷_, _++_, append-nil}
+use Prim.Native.Nat.{ℕ, zero, suc, _+_, _-_, _*_, _%_, _≤_, _<_}
+use native.Mathlib.Omega.{arith}
+use lib.Dec.{eqb}
+use lib.ListN.{length, take, set, getD, length-append, length-set}
+use Rattle.slices.specs.Text.{part}
+use Rattle.slices.proofs.Laws.TextLaws.{part-length}
+use Rattle.refusals.specs.declared.Refusal.{Refusal}
+use Rattle.refusals.specs.Refusals.{refusal, openBracket, emptyList}
+use Rattle.tokens.specs.declared.Token.{Token}
+use Rattle.tokens.specs.Token.{tokensFrom}
+use Rattle.rules.specs.Rule.{Leaf, named, olderThan, readable, Join, all, any, Rule, leaf, node, Rules, nil, more, size, sizes}
+use Rattle.image.specs.Encode.{leafKind, joinKind, tag, leafArg, joinArg, leafName, tags, tagsAll, args, argsAll, names, namesAll}
+use Rattle.image.proofs.Laws.EncodeLaws.{length-tags, length-tagsAll}
+use Rattle.grammar.specs.Grammar.{Rest, rest, missing, after, andSign, orSign, commaSign, closeSign, firstPlace, aLeaf, aGroup, aList, refused, headIn, chain, Got, got, bad, onto, onRest, closeAfter, orIn, orMore, andIn, andMore, primaryIn, listMore}
+use Rattle.grammar.specs.Inner.Heads.{left, leafOf}
+use Rattle.nodes.specs.Inner.Parses.{Arrays, Long, Holds, Read, Parsed, keepIf}
+use Rattle.nodes.proofs.Laws.ArrayLaws.{snoc, holds-as, holds-join, holds-push, holds-none, front, rebased}
+use Rattle.nodes.proofs.Laws.ChainLaws.{Chains, by-all, by-any, chained}
+use Rattle.grammar.specs.declared.Test.{Test}
+use Rattle.grammar.specs.declared.Test.the-variants.{OlderThan, Readable}
+use Rattle.nodes.specs.declared.Reach.{Reach}
+use Rattle.nodes.specs.declared.Reach.the-variants.{Done, Refused}
+
+-- ---- an answer, by its case
+module _ {G : ℕ → Got} {need : ℕ} {s : List ℕ} {at n m : ℕ} {b a : Arrays} where
+  pub gave-done : {e n₁ m₁ : ℕ} → Read G need s at n m b a e n₁ m₁ → Parsed G need s at n m b a (Done e n₁ m₁)
+  gave-done {e} {n₁} {m₁} r = record {
+    done = λ e′ n′ m′ q.
+        let qe : e ≡ e′ = cc in
+        let qn : n₁ ≡ n′ = cc in
+        let qm : m₁ ≡ m′ = cc in
+        subst (λ (i : ℕ). Read G need s at n m b a e′ n′ i) qm (subst (λ (i : ℕ). Read G need s at n m b a e′ i m₁) qn (subst (λ (i : ℕ). Read G need s at n m b a i n₁ m₁) qe r));
+    refused = λ x q. let z : _≡_ {A = ℕ} 0 1 = cc in absurd (omega arith);
+  }
+
+  pub gave-refused : {r : Reach} {x : Refusal} → r ≡ Refused x → ((f : ℕ) → need ≤ f → G f ≡ bad x) → Parsed G need s at n m b a r
+  gave-refused {r} {x} h not = record {
+    done = λ e n₁ m₁ q. let z : _≡_ {A = ℕ} 0 1 = cc in absurd (omega arith);
+    refused = λ x′ q f le.
+        let qx : x ≡ x′ = cc in
+        let w : G f ≡ bad x = not f le in
+        cc;
+  }
+
+  -- the same from other arrays that begin alike
+  pub rebase : {b′ : Arrays} {e n₁ m₁ : ℕ} → (take n (b′ .tags) ≡ take n (b .tags)) × (take n (b′ .args) ≡ take n (b .args)) × (take m (b′ .names) ≡ take m (b .names)) → Read G need s at n m b′ a e n₁ m₁ → Read G need s at n m b a e n₁ m₁
+  rebase q r = record {
+    tree = r .tree;
+    says = r .says;
+    on = r .on;
+    within = r .within;
+    fewer = r .fewer;
+    some = r .some;
+    room = r .room;
+    width = r .width;
+    holds = rebased (r .holds) q;
+  }
+
+-- ---- a level of the grammar, `or` or `and`: G reads at `at`, Op reads an operand, More goes on after what was read
+pub record Level (s : List ℕ) (G : ℕ → Got) (More : ℕ → Got → Got) (Op : ℕ → ℕ → Got) (sign : ℕ) (j : Join) (at : ℕ) : Type 0 where
+  pub chains : Chains j
+  pub starts : (f : ℕ) → G (suc f) ≡ More f (Op f at)
+  pub fails : (f : ℕ) (x : Refusal) → More (suc f) (bad x) ≡ bad x
+  pub stops : (f : ℕ) (t : Rule) (e : ℕ) → after sign (tokensFrom s e) ≡ missing → More (suc f) (got t (tokensFrom s e)) ≡ got t (tokensFrom s e)
+  pub turns : (f : ℕ) (t : Rule) (e y : ℕ) → after sign (tokensFrom s e) ≡ rest (tokensFrom s y) → More (suc f) (got t (tokensFrom s e)) ≡ More f (onto j t (Op f y))
+
+-- what a loop has read so far
+pub record Sofar (G : ℕ → Got) (More : ℕ → Got → Got) (need : ℕ) (s : List ℕ) (at n m : ℕ) (cap : ℕ) (b a : Arrays) (e n₁ m₁ : ℕ) : Type 0 where
+  pub tree : Rule
+  pub says : (f : ℕ) → need ≤ f → (g : ℕ) × (3 * left s e + 1 ≤ g) × (G f ≡ More g (got tree (tokensFrom s e)))
+  pub on : at < e
+  pub within : e ≤ length s
+  pub fewer : left s e < left s at
+  pub some : n < n₁
+  pub room : n₁ + at ≤ n + e
+  pub width : m₁ + at ≤ m + e
+  pub holds : Holds b a n m n₁ m₁ (tags tree) (args tree m) (names tree)
+  pub long : Long cap a
+
+module _ {s : List ℕ} {G : ℕ → Got} {More : ℕ → Got → Got} {Op : ℕ → ℕ → Got} {sign : ℕ} {j : Join} {at : ℕ} (L : Level s G More Op sign j at) where
+  -- the first operand was refused
+  pub first-refused : {need need′ : ℕ} {x : Refusal} → (1 ≤ need) × (need + 1 ≤ need′) → ((f : ℕ) → need ≤ f → Op f at ≡ bad x) → (f : ℕ) → need′ ≤ f → G f ≡ bad x
+  first-refused {need} {need′} {x} pos not f h = go f h
+    where
+      go : (f : ℕ) → need′ ≤ f → G f ≡ bad x
+      go zero h = absurd (omega arith)
+      go (suc zero) h = absurd (omega arith)
+      go (suc (suc f)) h = L .starts (suc f) ∙ ap (More (suc f)) (not (suc f) (omega arith)) ∙ L .fails f x
+
+  -- the first operand was read
+  pub begin : {need need′ n m : ℕ} {b a : Arrays} {e n₁ m₁ : ℕ} → (n ≤ length (b .tags)) × (m ≤ length (b .tags)) → Long (length (b .tags)) b → Long (length (a .tags)) a → (3 * left s at + 1 ≤ need) × (need + 1 ≤ need′) → Read (λ (f : ℕ). Op f at) need s at n m b a e n₁ m₁ → Sofar G More need′ s at n m (length (a .tags)) a a e n₁ m₁
+  begin {need} {need′} {n} {m} {b} {a} {e} {n₁} {m₁} fits lb la enough r = record {
+    tree = r .tree;
+    says = go;
+    on = r .on;
+    within = r .within;
+    fewer = r .fewer;
+    some = r .some;
+    room = r .room;
+    width = r .width;
+    holds = let q = front (r .holds) (omega (arith, lb)) (omega (arith, lb)) (omega (arith, lb)) in rebased (r .holds) (sym (q .0), sym (q .1), sym (q .2));
+    long = la;
+  }
+    where
+      go : (f : ℕ) → need′ ≤ f → (g : ℕ) × (3 * left s e + 1 ≤ g) × (G f ≡ More g (got (r .tree) (tokensFrom s e)))
+      go zero h = absurd (omega arith)
+      go (suc g) h = (g, omega (arith, r .fewer), L .starts g ∙ ap (More g) (r .says g (omega arith)))
+
+  -- no sign follows
+  pub stop : {need n m cap : ℕ} {b a : Arrays} {e n₁ m₁ : ℕ} → after sign (tokensFrom s e) ≡ missing → Sofar G More need s at n m cap b a e n₁ m₁ → Read G need s at n m b a e n₁ m₁
+  stop {need} {n} {m} {cap} {b} {a} {e} not l = record {
+    tree = l .tree;
+    says = λ f h. (l .says f h .2) ∙ done (l .says f h .0) (l .says f h .1);
+    on = l .on;
+    within = l .within;
+    fewer = l .fewer;
+    some = l .some;
+    room = l .room;
+    width = l .width;
+    holds = l .holds;
+  }
+    where
+      done : (g : ℕ) → 3 * left s e + 1 ≤ g → More g (got (l .tree) (tokensFrom s e)) ≡ got (l .tree) (tokensFrom s e)
+      done zero h = absurd (omega arith)
+      done (suc g) h = L .stops g (l .tree) e not
+
+  -- a sign follows, and the text goes on at y
+  module _ {e y : ℕ} (is : after sign (tokensFrom s e) ≡ rest (tokensFrom s y)) (fewer : left s y < left s e) where
+    -- the operand after it was refused
+    pub right-refused : {need need₂ n m cap : ℕ} {b a : Arrays} {n₁ m₁ : ℕ} {x : Refusal} → Sofar G More need s at n m cap b a e n₁ m₁ → need₂ ≤ 3 * left s y + 2 → ((f : ℕ) → need₂ ≤ f → Op f y ≡ bad x) → (f : ℕ) → need ≤ f → G f ≡ bad x
+    right-refused {need₂ = need₂} {x = x} l enough not f h = (l .says f h .2) ∙ done (l .says f h .0) (l .says f h .1)
+      where
+        done : (g : ℕ) → 3 * left s e + 1 ≤ g → More g (got (l .tree) (tokensFrom s e)) ≡ bad x
+        done zero h = absurd (omega arith)
+        done (suc zero) h = absurd (omega arith)
+        done (suc (suc g)) h = L .turns (suc g) (l .tree) e y is ∙ ap (λ (o : Got). More (suc g) (onto j (l .tree) o)) (not (suc g) (omega arith)) ∙ L .fails g x
+
+    -- the operand after it was read
+    pub turn : {need need₂ n m cap : ℕ} {b a a₂ a₃ : Arrays} {n₁ m₁ k e₂ n₂ m₂ : ℕ} → e < y → n ≤ cap → Long cap b → Sofar G More need s at n m cap b a e n₁ m₁
+        → (k ≡ keepIf (eqb (getD (a .tags) (n₁ - 1) 0 % 256) (joinKind j)) n₁) × ((k ≤ n₁) × (n₁ ≤ k + 1))
+        → need₂ ≤ 3 * left s y + 2
+        → Read (λ (f : ℕ). Op f y) need₂ s y k m₁ a a₂ e₂ n₂ m₂
+        → Long cap a₂ → n₂ < cap → a₃ .tags ≡ set (a₂ .tags) n₂ (tag (joinKind j) (n₂ - n + 1)) → a₃ .args ≡ set (a₂ .args) n₂ 0 → a₃ .names ≡ a₂ .names
+        → Sofar G More need s at n m cap b a₃ e₂ (n₂ + 1) m₂
+    turn {need} {need₂} {n} {m} {cap} {b} {a} {a₂} {a₃} {n₁} {m₁} {k} {e₂} {n₂} {m₂} ey fits lb l keeps enough r la lt p₁ p₂ p₃ = record {
+      tree = chain j (l .tree) (r .tree);
+      says = λ f h. let u = l .says f h in let v = says₂ (u .0) (u .1) in (v .0, v .1, u .2 ∙ v .2);
+      on = omega (arith, l .on, r .on);
+      within = r .within;
+      fewer = omega (arith, l .fewer, r .fewer);
+      some = omega (arith, l .some, r .some, keeps);
+      room = omega (arith, l .room, r .room, keeps);
+      width = omega (arith, l .width, r .width);
+      holds = chained (L .chains) (l .tree) (r .tree) (l .holds) (omega (arith, lb)) (omega (arith, lb)) (keeps .0) (r .holds) (omega (arith, la)) (omega (arith, la)) p₁ p₂ p₃;
+      long = record {
+        tags = ap length p₁ ∙ length-set (a₂ .tags) n₂ (tag (joinKind j) (n₂ - n + 1)) ∙ la .tags;
+        args = ap length p₂ ∙ length-set (a₂ .args) n₂ 0 ∙ la .args;
+        names = ap length p₃ ∙ la .names;
+      };
+    }
+      where
+        says₂ : (g : ℕ) → 3 * left s e + 1 ≤ g → (g₂ : ℕ) × (3 * left s e₂ + 1 ≤ g₂) × (More g (got (l .tree) (tokensFrom s e)) ≡ More g₂ (got (chain j (l .tree) (r .tree)) (tokensFrom s e₂)))
+        says₂ zero h = absurd (omega arith)
+        says₂ (suc g) h = (g, omega (arith, r .fewer), L .turns g (l .tree) e y is ∙ ap (λ (o : Got). More g (onto j (l .tree) o)) (r .says g (omega arith)))
+
+-- ---- the levels
+pub and-level : (s : List ℕ) (d at : ℕ) → Level s (λ (f : ℕ). andIn f s d (tokensFrom s at)) (λ (f : ℕ) (g : Got). andMore f s d g) (λ (f e : ℕ). primaryIn f s d (tokensFrom s e)) andSign all at
+unfolding andIn
+and-level s d at = record {
+  chains = by-all;
+  starts = λ f. refl;
+  fails = λ f x. refl;
+  stops = λ f t e q. rw q;
+  turns = λ f t e y q. rw q;
+}
+
+pub or-level : (s : List ℕ) (d at : ℕ) → Level s (λ (f : ℕ). orIn f s d (tokensFrom s at)) (λ (f : ℕ) (g : Got). orMore f s d g) (λ (f e : ℕ). andIn f s d (tokensFrom s e)) orSign any at
+unfolding orIn
+or-level s d at = record {
+  chains = by-any;
+  starts = λ f. refl;
+  fails = λ f x. refl;
+  stops = λ f t e q. rw q;
+  turns = λ f t e y q. rw q;
+}
+
+-- ---- a primary, by how it begins
+module _ (s : List ℕ) (d at : ℕ) where
+  abbrev Says : Got → Type 0
+  Says g = (f : ℕ) → 3 * left s at + 1 ≤ f → primaryIn f s d (tokensFrom s at) ≡ g
+
+  pub head-refused : {x : Refusal} → headIn s d (tokensFrom s at) ≡ refused x → Says (bad x)
+  unfolding primaryIn
+  head-refused q zero le = absurd (omega arith)
+  head-refused q (suc f) le = rw q
+
+  head-leaf : {l : Leaf} {us : List Token} → headIn s d (tokensFrom s at) ≡ aLeaf l us → Says (got (leaf l) us)
+  unfolding primaryIn
+  head-leaf q zero le = absurd (omega arith)
+  head-leaf q (suc f) le = rw q
+
+  -- a leaf's node is written, and its name if it has one
+  pub leafed : (l : Leaf) {cap e n m m₁ : ℕ} {b a : Arrays} → headIn s d (tokensFrom s at) ≡ aLeaf l (tokensFrom s e)
+      → (at < e) × (e ≤ length s) × (left s e < left s at) → m₁ + at ≤ m + e → Long cap b → n < cap
+      → a .tags ≡ set (b .tags) n (tag (leafKind l) 1) → a .args ≡ set (b .args) n (leafArg l m)
+      → take m₁ (a .names) ≡ take m (b .names) ++ leafName l → m₁ ≡ m + length (leafName l)
+      → Read (λ (f : ℕ). primaryIn f s d (tokensFrom s at)) (3 * left s at + 1) s at n m b a e (n + 1) m₁
+  unfolding tags args names
+  leafed l {cap} {e} {n} {m} {m₁} {b} {a} q h wd lb lt p₁ p₂ p₃ p₄ =
+      let none = holds-none {b = b} {n = n} {m = m} in
+      record {
+        tree = leaf l;
+        says = head-leaf q;
+        on = h .0;
+        within = h .1;
+        fewer = h .2;
+        some = omega arith;
+        room = omega arith;
+        width = wd;
+        holds = record {
+          tags = snoc (b .tags) (b .tags) (a .tags) [] n n (tag (leafKind l) 1) (none .tags) (omega (arith, lb)) p₁;
+          args = snoc (b .args) (b .args) (a .args) [] n n (leafArg l m) (none .args) (omega (arith, lb)) p₂;
+          names = p₃;
+          more-tags = refl;
+          more-args = refl;
+          more-names = p₄;
+        };
+      }
+
+  -- the same of a leaf that is no name
+  pub tested : (t : Test) {cap e n m : ℕ} {b a : Arrays} → headIn s d (tokensFrom s at) ≡ aLeaf (leafOf t) (tokensFrom s e)
+      → (at < e) × (e ≤ length s) × (left s e < left s at) → Long cap b → n < cap
+      → {k x : ℕ} → k ≡ leafKind (leafOf t) → x ≡ leafArg (leafOf t) 0 → a .tags ≡ set (b .tags) n (tag k 1) → a .args ≡ set (b .args) n x → a .names ≡ b .names
+      → Read (λ (f : ℕ). primaryIn f s d (tokensFrom s at)) (3 * left s at + 1) s at n m b a e (n + 1) m
+  tested (OlderThan i) {n = n} {m = m} {b = b} q h lb lt qk qx p₁ p₂ p₃ =
+      leafed (olderThan i) q h (omega arith) lb lt (p₁ ∙ ap (λ (k : ℕ). set (b .tags) n (tag k 1)) qk) (p₂ ∙ ap (set (b .args) n) qx) (ap (take m) p₃ ∙ sym (append-nil (take m (b .names)))) (omega arith)
+  tested (Readable i) {n = n} {m = m} {b = b} q h lb lt qk qx p₁ p₂ p₃ =
+      leafed (readable i) q h (omega arith) lb lt (p₁ ∙ ap (λ (k : ℕ). set (b .tags) n (tag k 1)) qk) (p₂ ∙ ap (set (b .args) n) qx) (ap (take m) p₃ ∙ sym (append-nil (take m (b .names)))) (omega arith)
+
+  -- and of a name
+  pub named-part : {cap e n m from to : ℕ} {b a : Arrays} → headIn s d (tokensFrom s at) ≡ aLeaf (named (part s from to)) (tokensFrom s e)
+      → (at < e) × (e ≤ length s) × (left s e < left s at) → (at ≤ from) × (from ≤ to) × (to ≤ e) → Long cap b → n < cap
+      → a .tags ≡ set (b .tags) n (tag 0 1) → a .args ≡ set (b .args) n (m * 65536 + (to - from))
+      → take (m + (to - from)) (a .names) ≡ take m (b .names) ++ part s from to
+      → Read (λ (f : ℕ). primaryIn f s d (tokensFrom s at)) (3 * left s at + 1) s at n m b a e (n + 1) (m + (to - from))
+  named-part {n = n} {m = m} {from = from} {to = to} {b = b} q h i lb lt p₁ p₂ p₃ =
+      let long = part-length s from to (omega arith) (omega arith) in
+      leafed (named (part s from to)) q h (omega arith) lb lt p₁ (p₂ ∙ ap (λ (x : ℕ). set (b .args) n (m * 65536 + x)) (sym long)) p₃ (ap (λ (x : ℕ). m + x) (sym long))
+
+  -- a bracket, with the text going on at e₀
+  module _ {e₀ : ℕ} (q : headIn s d (tokensFrom s at) ≡ aGroup (tokensFrom s e₀)) (h : (at < e₀) × (e₀ ≤ length s) × (left s e₀ < left s at)) where
+    grouped : (g : Got) → ((f : ℕ) → 3 * left s e₀ + 3 ≤ f → orIn f s (d + 1) (tokensFrom s e₀) ≡ g) → Says (closeAfter g)
+    unfolding primaryIn
+    grouped g inner zero le = absurd (omega arith)
+    grouped g inner (suc f) le = rw q (ap closeAfter (inner f (omega arith)))
+
+    pub inner-refused : {x : Refusal} → ((f : ℕ) → 3 * left s e₀ + 3 ≤ f → orIn f s (d + 1) (tokensFrom s e₀) ≡ bad x) → Says (bad x)
+    inner-refused {x} inner = grouped (bad x) inner
+
+    module _ {n m : ℕ} {b a : Arrays} {e n₁ m₁ : ℕ} (r : Read (λ (f : ℕ). orIn f s (d + 1) (tokensFrom s e₀)) (3 * left s e₀ + 3) s e₀ n m b a e n₁ m₁) where
+      pub unclosed : {p : ℕ} → after closeSign (tokensFrom s e) ≡ missing → firstPlace (tokensFrom s e) ≡ p → Says (bad (refusal openBracket p))
+      unclosed not pl f le =
+          grouped (got (r .tree) (tokensFrom s e)) (r .says) f le
+          ∙ ap (λ (x : Rest). onRest x (λ us. got (r .tree) us) (bad (refusal openBracket (firstPlace (tokensFrom s e))))) not
+          ∙ ap (λ (x : ℕ). bad (refusal openBracket x)) pl
+
+      pub closed : {y : ℕ} → after closeSign (tokensFrom s e) ≡ rest (tokensFrom s y) → (e < y) × (y ≤ length s) × (left s y < left s e) → Read (λ (f : ℕ). primaryIn f s d (tokensFrom s at)) (3 * left s at + 1) s at n m b a y n₁ m₁
+      closed shut lt = record {
+        tree = r .tree;
+        says = λ f le.
+            grouped (got (r .tree) (tokensFrom s e)) (r .says) f le
+            ∙ ap (λ (x : Rest). onRest x (λ us. got (r .tree) us) (bad (refusal openBracket (firstPlace (tokensFrom s e))))) shut;
+        on = omega (arith, r .on);
+        within = lt .1;
+        fewer = omega (arith, r .fewer);
+        some = r .some;
+        room = omega (arith, r .room);
+        width = omega (arith, r .width);
+        holds = r .holds;
+      }
+
+-- ---- a list
+-- what the loop over a list has read, before it reads at e
+pub record Listing (s : List ℕ) (d at : ℕ) (j : Join) (n m cap : ℕ) (b a : Arrays) (e n₁ m₁ : ℕ) : Type 0 where
+  pub rules : Rules
+  pub says : (f : ℕ) → 3 * left s at + 1 ≤ f → (g : ℕ) × (3 * left s e + 3 ≤ g) × (primaryIn f s d (tokensFrom s at) ≡ listMore g s d j rules (orIn g s (d + 1) (tokensFrom s e)))
+  pub on : at < e
+  pub within : e ≤ length s
+  pub fewer : left s e < left s at
+  pub room : n₁ + at ≤ n + e
+  pub width : m₁ + at ≤ m + e
+  pub some : n ≤ n₁
+  pub holds : Holds b a n m n₁ m₁ (tagsAll rules) (argsAll rules m) (namesAll rules)
+  pub long : Long cap a
+
+module _ (s : List ℕ) (d at : ℕ) (j : Join) where
+  module _ {place e : ℕ} (q : headIn s d (tokensFrom s at) ≡ aList j place (tokensFrom s e)) (h : (at < e) × (e ≤ length s) × (left s e < left s at)) where
+    pub list-empty : {us : List Token} → after closeSign (tokensFrom s e) ≡ rest us → Says s d at (bad (refusal emptyList place))
+    unfolding primaryIn
+    list-empty shut zero le = absurd (omega arith)
+    list-empty shut (suc f) le = rw (q, shut)
+
+    pub list-begin : {n m cap : ℕ} {b : Arrays} → after closeSign (tokensFrom s e) ≡ missing → Long cap b → Listing s d at j n m cap b b e n m
+    unfolding primaryIn tags args names
+    list-begin {n} {m} {cap} {b} not lb = record {
+      rules = nil;
+      says = go;
+      on = h .0;
+      within = h .1;
+      fewer = h .2;
+      room = omega arith;
+      width = omega arith;
+      some = omega arith;
+      holds = holds-none;
+      long = lb;
+    }
+      where
+        go : (f : ℕ) → 3 * left s at + 1 ≤ f → (g : ℕ) × (3 * left s e + 3 ≤ g) × (primaryIn f s d (tokensFrom s at) ≡ listMore g s d j nil (orIn g s (d + 1) (tokensFrom s e)))
+        go zero le = absurd (omega arith)
+        go (suc g) le = (g, omega arith, rw (q, not))
+
+  module _ {n m cap : ℕ} {b a : Arrays} {e n₁ m₁ : ℕ} (l : Listing s d at j n m cap b a e n₁ m₁) where
+    pub item-refused : {x : Refusal} → ((f : ℕ) → 3 * left s e + 3 ≤ f → orIn f s (d + 1) (tokensFrom s e) ≡ bad x) → Says s d at (bad x)
+    unfolding listMore
+    item-refused {x} not f le = (l .says f le .2) ∙ go (l .says f le .0) (l .says f le .1)
+      where
+        go : (g : ℕ) → 3 * left s e + 3 ≤ g → listMore g s d j (l .rules) (orIn g s (d + 1) (tokensFrom s e)) ≡ bad x
+        go zero h = absurd (omega arith)
+        go (suc g) h = ap (listMore (suc g) s d j (l .rules)) (not (suc g) h)
+
+    -- an item was read, up to e₂
+    module _ {a₂ : Arrays} {e₂ n₂ m₂ : ℕ} (r : Read (λ (f : ℕ). orIn f s (d + 1) (tokensFrom s e)) (3 * left s e + 3) s e n₁ m₁ a a₂ e₂ n₂ m₂) where
+      after-item : (f : ℕ) → 3 * left s at + 1 ≤ f → (g : ℕ) × (3 * left s e + 2 ≤ g) × (primaryIn f s d (tokensFrom s at) ≡ listMore (suc g) s d j (l .rules) (got (r .tree) (tokensFrom s e₂)))
+      after-item f le = let v = go (l .says f le .0) (l .says f le .1) in (v .0, v .1, l .says f le .2 ∙ v .2)
+        where
+          go : (g : ℕ) → 3 * left s e + 3 ≤ g → (g₂ : ℕ) × (3 * left s e + 2 ≤ g₂) × (listMore g s d j (l .rules) (orIn g s (d + 1) (tokensFrom s e)) ≡ listMore (suc g₂) s d j (l .rules) (got (r .tree) (tokensFrom s e₂)))
+          go zero h = absurd (omega arith)
+          go (suc g) h = (g, omega arith, ap (listMore (suc g) s d j (l .rules)) (r .says (suc g) h))
+
+      joined : Holds b a₂ n m n₂ m₂ (tagsAll (more (l .rules) (r .tree))) (argsAll (more (l .rules) (r .tree)) m) (namesAll (more (l .rules) (r .tree)))
+      unfolding tags args names
+      joined = holds-as (holds-join (l .holds) (r .holds)) refl (ap (λ (x : ℕ). argsAll (l .rules) m ++ args (r .tree) x) (l .holds .more-names)) refl
+
+      -- neither a comma nor a bracket follows
+      pub list-unclosed : {p : ℕ} → after commaSign (tokensFrom s e₂) ≡ missing → after closeSign (tokensFrom s e₂) ≡ missing → firstPlace (tokensFrom s e₂) ≡ p → Says s d at (bad (refusal openBracket p))
+      unfolding listMore
+      list-unclosed c o pl f le = let v = after-item f le in v .2 ∙ rw (c, o, pl)
+
+      pub list-turn : {y : ℕ} → after commaSign (tokensFrom s e₂) ≡ rest (tokensFrom s y) → (e₂ < y) × (y ≤ length s) × (left s y < left s e₂) → Long cap a₂ → Listing s d at j n m cap b a₂ y n₂ m₂
+      unfolding listMore
+      list-turn c lt la = record {
+        rules = more (l .rules) (r .tree);
+        says = λ f le. let v = after-item f le in (v .0, omega (arith, v .1, r .fewer), v .2 ∙ rw c);
+        on = omega (arith, l .on, r .on);
+        within = lt .1;
+        fewer = omega (arith, l .fewer, r .fewer);
+        room = omega (arith, l .room, r .room);
+        width = omega (arith, l .width, r .width);
+        some = omega (arith, l .some, r .some);
+        holds = joined;
+        long = la;
+      }
+
+      pub list-stop : {a₃ : Arrays} {y : ℕ} → after commaSign (tokensFrom s e₂) ≡ missing → after closeSign (tokensFrom s e₂) ≡ rest (tokensFrom s y) → (e₂ < y) × (y ≤ length s) × (left s y < left s e₂) → Long cap a₂ → n₂ < cap
+          → {k x : ℕ} → k ≡ joinKind j → x ≡ joinArg j → a₃ .tags ≡ set (a₂ .tags) n₂ (tag k (n₂ - n + 1)) → a₃ .args ≡ set (a₂ .args) n₂ x → a₃ .names ≡ a₂ .names
+          → Read (λ (f : ℕ). primaryIn f s d (tokensFrom s at)) (3 * left s at + 1) s at n m b a₃ y (n₂ + 1) m₂
+      unfolding listMore tags args names
+      list-stop c o w la lt qk qx p₁ p₂ p₃ =
+          let rs : Rules = l .rules in
+          let t : Rule = r .tree in
+          let sz : n₂ - n + 1 ≡ suc (sizes rs + size t) = omega (arith, joined .more-tags, length-append (tagsAll rs) (tags t), length-tagsAll rs, length-tags t) in
+          record {
+            tree = node j rs t;
+            says = λ f le. let v = after-item f le in v .2 ∙ rw (c, o);
+            on = omega (arith, l .on, r .on);
+            within = w .1;
+            fewer = omega (arith, l .fewer, r .fewer);
+            some = omega (arith, l .some, r .some);
+            room = omega (arith, l .room, r .room);
+            width = omega (arith, l .width, r .width);
+            holds = holds-as (holds-push joined (tag (joinKind j) (n₂ - n + 1)) (joinArg j) (omega (arith, la)) (omega (arith, la)) (p₁ ∙ ap (λ (k : ℕ). set (a₂ .tags) n₂ (tag k (n₂ - n + 1))) qk) (p₂ ∙ ap (set (a₂ .args) n₂) qx) p₃) (ap (λ (x : ℕ). (tagsAll rs ++ tags t) ++ tag (joinKind j) x ∷ []) sz) refl refl;
+          }

@@ -1,0 +1,73 @@
+-- What the parser's functions ask and promise: where in the text they are, and what stands in the three lent arrays.
+-- Assumes nothing.
+use Prim.Native.Nat.{ℕ, _+_, _-_, _≤_, _<_}
+use mathlib.Core.Path.{_≡_}
+use mathlib.Core.Bool.{Bool, true, false}
+use mathlib.Core.List.{List, _++_}
+use lib.ListN.{length, take}
+use Rattle.classes.specs.Class.{faults}
+use Rattle.refusals.specs.declared.Refusal.{Refusal}
+use Rattle.tokens.specs.Token.{tokensFrom}
+use Rattle.rules.specs.Rule.{Rule}
+use Rattle.image.specs.Encode as image
+use Rattle.grammar.specs.Grammar.{Got, got, bad}
+use Rattle.grammar.specs.Inner.Heads.{left}
+use Rattle.nodes.specs.declared.Reach.{Reach}
+use Rattle.nodes.specs.declared.Reach.the-variants.{Done, Refused}
+
+-- the three lent arrays
+pub record Arrays : Type 0 where
+  pub tags : List ℕ
+  pub args : List ℕ
+  pub names : List ℕ
+
+abbrev pub arrays : List ℕ → List ℕ → List ℕ → Arrays
+arrays t a w = record { tags = t; args = a; names = w }
+
+-- each has room for so many
+pub record Long (cap : ℕ) (b : Arrays) : Type 0 where
+  pub tags : length (b .tags) ≡ cap
+  pub args : length (b .args) ≡ cap
+  pub names : length (b .names) ≡ cap
+
+-- before a call: the table has no faults, the position lies in the text behind the brackets that stand open, and there is room
+-- for a node and for a name byte for each byte of the text that is left
+pub record Before (class s : List ℕ) (at depth n m : ℕ) (b : Arrays) : Type 0 where
+  pub table : faults class ≡ 0
+  pub inside : at ≤ length s
+  pub shallow : depth ≤ at
+  pub roomy : n + (length s - at) ≤ length (b .tags)
+  pub wide : m + (length s - at) ≤ length (b .tags)
+  pub few : length (b .tags) ≤ 2048
+  pub long : Long (length (b .tags)) b
+
+-- behind the first n nodes and m name bytes of b stand T, A and N in a, up to n₁ and m₁
+pub record Holds (b a : Arrays) (n m n₁ m₁ : ℕ) (T A N : List ℕ) : Type 0 where
+  pub tags : take n₁ (a .tags) ≡ take n (b .tags) ++ T
+  pub args : take n₁ (a .args) ≡ take n (b .args) ++ A
+  pub names : take m₁ (a .names) ≡ take m (b .names) ++ N
+  pub more-tags : n₁ ≡ n + length T
+  pub more-args : n₁ ≡ n + length A
+  pub more-names : m₁ ≡ m + length N
+
+-- after it: G, with fuel enough, reads a rule and leaves the tokens from e on, and the rule's nodes stand behind the first n
+pub record Read (G : ℕ → Got) (need : ℕ) (s : List ℕ) (at n m : ℕ) (b a : Arrays) (e n₁ m₁ : ℕ) : Type 0 where
+  pub tree : Rule
+  pub says : (f : ℕ) → need ≤ f → G f ≡ got tree (tokensFrom s e)
+  pub on : at < e
+  pub within : e ≤ length s
+  pub fewer : left s e < left s at
+  pub some : n < n₁
+  pub room : n₁ + at ≤ n + e
+  pub width : m₁ + at ≤ m + e
+  pub holds : Holds b a n m n₁ m₁ (image.tags tree) (image.args tree m) (image.names tree)
+
+-- either case of an answer
+pub record Parsed (G : ℕ → Got) (need : ℕ) (s : List ℕ) (at n m : ℕ) (b a : Arrays) (r : Reach) : Type 0 where
+  pub done : (e n₁ m₁ : ℕ) → r ≡ Done e n₁ m₁ → Read G need s at n m b a e n₁ m₁
+  pub refused : (x : Refusal) → r ≡ Refused x → (f : ℕ) → need ≤ f → G f ≡ bad x
+
+-- one less where a chain goes on in its left side
+abbrev pub keepIf : Bool → ℕ → ℕ
+keepIf true n = n - 1
+keepIf false n = n

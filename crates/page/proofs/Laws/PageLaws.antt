@@ -1,0 +1,71 @@
+-- Laws of the page: which of its cases is due, and the table that arguments make. Assumes nothing.
+use mathlib.Core.Path.{_≡_}
+use mathlib.Core.List.{List, []}
+use Prim.Native.Nat.{ℕ, _≤_, _<_}
+use native.Mathlib.Omega.{arith}
+use borrow.Author.Tests.{lt-ltb, le-ltb}
+use lib.ListN.{length, take}
+use Rattle.store_table.specs.Stores.{Entry, Laid, entriesIn}
+use Rattle.store_table.specs.TableBytes.{tableOf}
+use Rattle.store_table.proofs.Laws.TableBytesLaws.{table-length, sum-few, table-of, table-laid}
+use Rattle.verdict.specs.declared.Verdict.{Verdict}
+use Rattle.verdict.specs.Check.{judgeOf}
+use Rattle.details.specs.Report.{verdictText}
+use Rattle.store_args.specs.declared.Fault.{Fault}
+use Rattle.store_args.specs.declared.Fault.the-variants.{NoColon, NoMode, LongName, ForeignName}
+use Rattle.store_args.specs.declared.Made.{Made}
+use Rattle.store_args.specs.declared.Made.the-variants.{Table}
+use Rattle.store_args.specs.Arguments.{stores, wrongAt, split, storesIn}
+use Rattle.store_args.proofs.Laws.ArgumentsLaws.{stores-fit, stores-many}
+use Rattle.store_args.specs.Inner.Filling.{MadeOf}
+use Rattle.page.specs.Page.{faultText, argumentLine, tooMany, judgedText, reportOf, pageOf}
+
+pub fault-short : (f : Fault) → length (faultText f) ≤ 64
+fault-short NoColon = omega arith
+fault-short NoMode = omega arith
+fault-short LongName = omega arith
+fault-short ForeignName = omega arith
+
+-- ---- the table that arguments make, at the front of a buffer
+pub record Given (args buffer : List ℕ) (n : ℕ) : Type 0 where
+  pub all : List Entry
+  pub are : storesIn args ≡ stores all
+  pub within : n ≤ length buffer
+  pub bytes : take n buffer ≡ tableOf all
+  pub back : entriesIn (take n buffer) ≡ all
+  pub laid : Laid (take n buffer)
+  pub small : length (take n buffer) ≤ 16_452
+
+pub given : {args buffer : List ℕ} {r : Made} {n : ℕ} → length (split args) ≤ 64 → MadeOf (storesIn args) buffer r → r ≡ Table n → Given args buffer n
+given {args} {buffer} {r} {n} few m e =
+    let (l, (es, (q, b))) = m .made n e in
+    let fit = stores-fit args es q in
+    let most : length es ≤ 64 = omega (arith, stores-many args es q) in
+    record {
+      all = es;
+      are = q;
+      within = l;
+      bytes = b;
+      back = rw b (table-of 2 es (omega arith) most fit .2);
+      laid = rw b (table-laid 2 es (omega arith) most fit);
+      small = rw b (omega (arith, table-length es, sum-few es fit));
+    }
+
+-- ---- the cases
+module _ (text args page : List ℕ) where
+  pub page-short : length page < 32_768 → [] ≡ pageOf text args page
+  page-short h = rw (lt-ltb (length page) 32_768 h)
+
+  module _ (room : 32_768 ≤ length page) where
+    pub page-many : 64 < length (split args) → tooMany ≡ pageOf text args page
+    unfolding reportOf
+    page-many h = rw (le-ltb (length page) 32_768 room, lt-ltb 64 (length (split args)) h)
+
+    module _ (few : length (split args) ≤ 64) where
+      pub page-wrong : {i : ℕ} {f : Fault} → storesIn args ≡ wrongAt i f → argumentLine i f ≡ pageOf text args page
+      unfolding reportOf
+      page-wrong e = rw (le-ltb (length page) 32_768 room, le-ltb 64 (length (split args)) few, e)
+
+      pub page-judged : {buffer : List ℕ} {n : ℕ} {v : Verdict} → (g : Given args buffer n) → v ≡ judgeOf text (take n buffer) → verdictText text (entriesIn (take n buffer)) v ≡ pageOf text args page
+      unfolding reportOf judgedText
+      page-judged g e = rw (le-ltb (length page) 32_768 room, le-ltb 64 (length (split args)) few, g .are, e, g .back, g .bytes)

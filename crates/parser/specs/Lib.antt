@@ -1,4 +1,0 @@
-pub mod Parses
-pub mod ArrayLaws
-pub mod ChainLaws
-pub mod ParseLaws

@@ -1,0 +1,58 @@
+-- `print_pieces::put_back` meets its contract: the bracket stands before what is put first. Assumes nothing.
+use mathlib.Core.Path.{sym, _∙_}
+use native.Mathlib.Omega.{arith}
+use borrow.Author.Needs.{needs}
+use lib.ListN.{length-append}
+use Rattle.print_text.specs.Print.{bracket}
+use Rattle.print_text.specs.Inner.Pieces.{backOf}
+use Rattle.slices.proofs.Laws.WrittenLaws.{put-before}
+use Rattle.print_pieces.proofs.put_back.Statement.{statement}
+use Rattle.print_pieces.proofs.put_back.Tie as tie
+
+put-behind-requires : tie.Need-put-behind-requires
+unfolding backOf bracket
+put-behind-requires c κs = (omega (arith, simp length-append at (c .before .before .pre .0)), search needs)
+
+is-bracketed-requires : tie.Need-is-bracketed-requires
+is-bracketed-requires c κs = search needs
+
+slice-aggregate-put : tie.Need-slice-aggregate-put
+slice-aggregate-put c = search needs
+
+put-requires : tie.Need-put-requires
+unfolding backOf bracket
+put-requires c κs =
+    let i = c .before .before in
+    let s = i .before .before .before .before .before .before .before in
+    (omega (arith, simp length-append at (rw (sym (i .before .is-bracketed .ensures) ∙ i .if1 .taken) at (s .pre .0))), omega arith)
+
+same-length : tie.Need-same-length
+same-length c = search needs
+
+returns : tie.Need-returns
+unfolding backOf bracket
+returns c =
+    let i = c .before .before .before .before .before in
+    let s = i .before .before .before .before .before .before .before in
+    rw (sym (i .before .is-bracketed .ensures) ∙ i .if1 .taken)
+    (put-before (s .pre .1) (i .before .before .before .before .put-behind .ensures) (c .before .before .put .ensures))
+
+same-length-2 : tie.Need-same-length-2
+same-length-2 c = search needs
+
+returns-2 : tie.Need-returns-2
+unfolding backOf bracket
+returns-2 c = rw (sym (c .before .is-bracketed .ensures) ∙ c .if1 .left) (c .before .before .before .before .put-behind .ensures)
+
+pub put-back-spec : {M : Type 1} → statement M
+put-back-spec =
+    tie.close
+    (tie.spec
+    put-behind-requires
+    is-bracketed-requires
+    slice-aggregate-put
+    put-requires
+    same-length
+    returns
+    same-length-2
+    returns-2)

@@ -1,0 +1,36 @@
+-- `print_pieces::put_front` meets its contract. Assumes nothing.
+use mathlib.Core.Path.{sym, _∙_}
+use borrow.Author.Needs.{needs}
+use Rattle.print_text.specs.Print.{bracket}
+use Rattle.print_text.specs.Inner.Pieces.{frontOf}
+use Rattle.slices.proofs.Laws.WrittenLaws.{put-none}
+use Rattle.print_pieces.proofs.put_front.Statement.{statement}
+use Rattle.print_pieces.proofs.put_front.Tie as tie
+
+is-bracketed-requires : tie.Need-is-bracketed-requires
+is-bracketed-requires c κs = search needs
+
+slice-aggregate-put : tie.Need-slice-aggregate-put
+slice-aggregate-put c = search needs
+
+put-requires : tie.Need-put-requires
+unfolding frontOf bracket
+put-requires c κs =
+    let i = c .before .before in
+    (rw (sym (i .before .is-bracketed .ensures) ∙ i .if1 .taken) at (i .before .before .before .pre .0), search needs)
+
+same-length : tie.Need-same-length
+same-length c = search needs
+
+returns : tie.Need-returns
+unfolding frontOf bracket
+returns c =
+    let i = c .before .before .before .before .before in
+    rw (sym (i .before .is-bracketed .ensures) ∙ i .if1 .taken) (c .before .before .put .ensures)
+
+returns-2 : tie.Need-returns-2
+unfolding frontOf bracket
+returns-2 c = rw (sym (c .before .is-bracketed .ensures) ∙ c .if1 .left) (put-none _ _)
+
+pub put-front-spec : {M : Type 1} → statement M
+put-front-spec = tie.close (tie.spec is-bracketed-requires slice-aggregate-put put-requires same-length returns returns-2)

@@ -1,0 +1,130 @@
+-- `print_pieces::put_leaf` meets its contract: each kind has its own pieces, each put before the one put before it. Assumes nothing.
+use native.Mathlib.Omega.{arith}
+use borrow.Author.Needs.{needs}
+use lib.ListN.{length-append}
+use Rattle.image.specs.Decode.{meaning}
+use Rattle.print_text.specs.Print.{leafText}
+use Rattle.print_text.specs.Inner.Pieces.{leafTextOf}
+use Rattle.slices.proofs.Laws.WrittenLaws.{put-none, put-before}
+use Rattle.print_text.proofs.Laws.PiecesLaws.{no-leaf-text}
+use Rattle.print_pieces.proofs.put_leaf.Statement.{statement}
+use Rattle.print_pieces.proofs.put_leaf.Tie as tie
+
+name-of-requires : tie.Need-name-of-requires
+name-of-requires c κs = c .before .before .before .before .pre .0 (c .before .match .keys1)
+
+put-requires : tie.Need-put-requires
+unfolding leafTextOf leafText meaning
+put-requires c κs =
+    let m = c .before .before in
+    (rw (c .name-of .ensures) (rw (m .match .keys1) at (m .before .before .before .pre .1)), search needs)
+
+slice-aggregate-put : tie.Need-slice-aggregate-put
+slice-aggregate-put c = search needs
+
+put-requires-2 : tie.Need-put-requires-2
+unfolding leafTextOf leafText meaning
+put-requires-2 c κs =
+    let m = c .before .before in
+    (omega (arith, simp length-append at (rw (m .match .keys2) at (m .before .before .before .pre .1))), search needs)
+
+format-duration-requires : tie.Need-format-duration-requires
+unfolding leafTextOf leafText meaning
+format-duration-requires c κs =
+    let m = c .before .before .before .before .before .before in
+    (omega (arith, simp length-append at (rw (m .match .keys2) at (m .before .before .before .pre .1))), omega arith)
+
+slice-aggregate-put-2 : tie.Need-slice-aggregate-put-2
+slice-aggregate-put-2 c = search needs
+
+put-requires-3 : tie.Need-put-requires-3
+unfolding leafTextOf leafText meaning
+put-requires-3 c κs =
+    let m = c .before .before .before .before .before .before .before .before .before .before .before in
+    (omega (arith, simp length-append at (rw (m .match .keys2) at (m .before .before .before .pre .1))), omega arith)
+
+slice-aggregate-put-3 : tie.Need-slice-aggregate-put-3
+slice-aggregate-put-3 c = search needs
+
+put-requires-4 : tie.Need-put-requires-4
+unfolding leafTextOf leafText meaning
+put-requires-4 c κs =
+    let m = c .before .before in
+    (omega (arith, simp length-append at (rw (m .match .keys3) at (m .before .before .before .pre .1))), search needs)
+
+put-digits-requires : tie.Need-put-digits-requires
+unfolding leafTextOf leafText meaning
+put-digits-requires c κs =
+    let m = c .before .before .before .before .before .before in
+    (omega (arith, simp length-append at (rw (m .match .keys3) at (m .before .before .before .pre .1))), omega arith)
+
+slice-aggregate-put-4 : tie.Need-slice-aggregate-put-4
+slice-aggregate-put-4 c = search needs
+
+put-requires-5 : tie.Need-put-requires-5
+unfolding leafTextOf leafText meaning
+put-requires-5 c κs =
+    let m = c .before .before .before .before .before .before .before .before .before .before .before in
+    (omega (arith, simp length-append at (rw (m .match .keys3) at (m .before .before .before .pre .1))), omega arith)
+
+same-length : tie.Need-same-length
+same-length c = search needs
+
+returns : tie.Need-returns
+unfolding leafTextOf leafText meaning
+returns c =
+    let m = c .before .before .before .before .before in
+    rw (m .match .keys1) (rw (c .before .before .before .name-of .ensures) at (c .before .before .put .ensures))
+
+same-length-2 : tie.Need-same-length-2
+same-length-2 c = search needs
+
+returns-2 : tie.Need-returns-2
+unfolding leafTextOf leafText meaning
+returns-2 c =
+    let d = c .before .before .before .before .before .before .before in
+    let p = d .before .before .before .before in
+    let m = p .before .before .before in
+    let l = m .before .before .before .pre .2 in
+    rw (m .match .keys2) (put-before l (put-before l (p .put2 .ensures) (d .format-duration .ensures)) (c .before .before .put3 .ensures))
+
+same-length-3 : tie.Need-same-length-3
+same-length-3 c = search needs
+
+returns-3 : tie.Need-returns-3
+unfolding leafTextOf leafText meaning
+returns-3 c =
+    let d = c .before .before .before .before .before .before .before in
+    let p = d .before .before .before .before in
+    let m = p .before .before .before in
+    let l = m .before .before .before .pre .2 in
+    rw (m .match .keys3) (put-before l (put-before l (p .put4 .ensures) (d .put-digits .ensures)) (c .before .before .put5 .ensures))
+
+returns-4 : tie.Need-returns-4
+returns-4 c =
+    let s = c .before .before .before in
+    rw (no-leaf-text (s .args .image .now) (s .args .n) (s .args .kind) (s .args .arg) (omega arith)) (put-none _ _)
+
+pub put-leaf-spec : {M : Type 1} → statement M
+put-leaf-spec =
+    tie.close
+    (tie.spec
+    name-of-requires
+    put-requires
+    slice-aggregate-put
+    put-requires-2
+    format-duration-requires
+    slice-aggregate-put-2
+    put-requires-3
+    slice-aggregate-put-3
+    put-requires-4
+    put-digits-requires
+    slice-aggregate-put-4
+    put-requires-5
+    same-length
+    returns
+    same-length-2
+    returns-2
+    same-length-3
+    returns-3
+    returns-4)

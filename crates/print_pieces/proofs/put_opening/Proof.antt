@@ -1,0 +1,61 @@
+-- `print_pieces::put_opening` meets its contract: three pieces, each before the one put before it. Assumes nothing.
+use native.Mathlib.Omega.{arith}
+use borrow.Author.Needs.{needs}
+use lib.ListN.{length-append}
+use Rattle.print_text.specs.Print.{opening}
+use Rattle.print_text.specs.Inner.Pieces.{openingOf}
+use Rattle.slices.proofs.Laws.WrittenLaws.{put-none, put-before}
+use Rattle.print_text.proofs.Laws.PiecesLaws.{no-opening}
+use Rattle.print_pieces.proofs.put_opening.Statement.{statement}
+use Rattle.print_pieces.proofs.put_opening.Tie as tie
+
+slice-aggregate-put : tie.Need-slice-aggregate-put
+slice-aggregate-put c = search needs
+
+put-requires : tie.Need-put-requires
+unfolding openingOf opening
+put-requires c κs =
+    let m = c .before .before in
+    (omega (arith, simp length-append at (rw (m .match .keys1) at (m .before .before .pre .0))), search needs)
+
+put-digits-requires : tie.Need-put-digits-requires
+unfolding openingOf opening
+put-digits-requires c κs =
+    let m = c .before .before .before .before .before .before in
+    (omega (arith, simp length-append at (rw (m .match .keys1) at (m .before .before .pre .0))), omega arith)
+
+slice-aggregate-put-2 : tie.Need-slice-aggregate-put-2
+slice-aggregate-put-2 c = search needs
+
+put-requires-2 : tie.Need-put-requires-2
+unfolding openingOf opening
+put-requires-2 c κs =
+    let m = c .before .before .before .before .before .before .before .before .before .before .before in
+    (omega (arith, simp length-append at (rw (m .match .keys1) at (m .before .before .pre .0))), omega arith)
+
+same-length : tie.Need-same-length
+same-length c = search needs
+
+returns : tie.Need-returns
+unfolding openingOf opening
+returns c =
+    let d = c .before .before .before .before .before .before .before in
+    let p = d .before .before .before .before in
+    let m = p .before .before .before in
+    rw (m .match .keys1) (put-before (m .before .before .pre .1) (put-before (m .before .before .pre .1) (p .put .ensures) (d .put-digits .ensures)) (c .before .before .put2 .ensures))
+
+returns-2 : tie.Need-returns-2
+returns-2 c = rw (no-opening (c .before .before .args .kind) _ (λ e. omega arith)) (put-none _ _)
+
+pub put-opening-spec : {M : Type 1} → statement M
+put-opening-spec =
+    tie.close
+    (tie.spec
+    slice-aggregate-put
+    put-requires
+    put-digits-requires
+    slice-aggregate-put-2
+    put-requires-2
+    same-length
+    returns
+    returns-2)

@@ -1,0 +1,233 @@
+-- `print_put::put_rule` meets its contract: the walk over the children keeps what is put, and each child has fewer nodes than its
+-- parent. Assumes nothing.
+use mathlib.Core.Path.{_≡_, ap}
+use mathlib.Core.Logic.{⊎-elim}
+use Prim.Native.Nat.{ℕ, _+_, _-_, _≤_, _<_}
+use native.Mathlib.Omega.{arith}
+use lib.ListN.{length, length-append}
+use borrow.Author.Needs.{needs}
+use borrow.Fn.Kinds.{In}
+use borrow.Fn.PlainCycle.{Measures, is, falls, and}
+use Rattle.rules.specs.Rule.{Rule, size}
+use Rattle.image.specs.Decode.{cellAt}
+use Rattle.image.specs.Inner.Standing.{Stands}
+use Rattle.image.specs.Inner.Valid.{nodeOf}
+use Rattle.image.proofs.Laws.EncodeLaws.{size-pos}
+use Rattle.image.proofs.Laws.CellLaws.{name-inside}
+use Rattle.slices.specs.Written.{Put}
+use Rattle.slices.proofs.Laws.WrittenLaws.{put-none, put-before, put-length}
+use Rattle.print_text.specs.Print.{textOf}
+use Rattle.print_text.proofs.Laws.ChildrenLaws.{Walks, walks-start, Turn, turn, walks-next, walks-done, leaf-text}
+use Rattle.print_text.proofs.Laws.PutLaws.{pieces-room, child-room, put-start}
+use Rattle.print_put.proofs.put_rule.Reads as put-rule
+use Rattle.print_put.proofs.put_rule.Kinds as put-rule-kinds
+use Rattle.print_put.proofs.+put_rule.Lts-put_rule as put-rule-lts
+use Rattle.image.proofs.node_at.Reads as node-at-reads
+use Rattle.print_pieces.proofs.put_back.Reads as put-back-reads
+use Rattle.print_pieces.proofs.put_front.Reads as put-front-reads
+use Rattle.print_pieces.proofs.put_leaf.Reads as put-leaf-reads
+use Rattle.print_pieces.proofs.put_opening.Reads as put-opening-reads
+use Rattle.print_put.proofs.+put_rule.{statement}
+use Rattle.print_put.proofs.+put_rule.Tie.{close}
+
+abbrev μ-put-rule : Measures 2 put-rule-kinds.ps ℕ
+μ-put-rule κs a = a .1 .1 .1 .0
+
+abbrev put-rule-at : ℕ → In 2 put-rule-kinds.ps
+put-rule-at t = and 2 put-rule-kinds.ps (is 2 put-rule-kinds.ps μ-put-rule t) put-rule.Pre
+
+abbrev put-rule-below : ℕ → In 2 put-rule-kinds.ps
+put-rule-below t =
+    and 2 put-rule-kinds.ps (falls 2 put-rule-kinds.ps _<_ μ-put-rule t) put-rule.Pre
+
+-- what the callees ask and give
+abbrev given : ℕ → put-rule-lts.Claims
+given t = (node-at-reads.Asked, node-at-reads.Learnt, put-leaf-reads.Asked, put-leaf-reads.Learnt, put-back-reads.Asked, put-back-reads.Learnt, put-rule-below t, put-rule.Post, put-front-reads.Asked, put-front-reads.Learnt, put-opening-reads.Asked, put-opening-reads.Learnt)
+
+abbrev put-rule-Inv-loop : put-rule-lts.InvT-loop
+put-rule-Inv-loop image n from size text₀ end at kind arg stop₀ to₀ text stop to =
+    (stop ≤ from + size - 1) × Walks image n kind arg from size stop (λ t. Put text₀ text to end t)
+
+abbrev put-rule-μ-loop : put-rule-lts.MeasureT-loop
+put-rule-μ-loop image n from size text₀ end at kind arg stop₀ to₀ text stop to = stop
+
+-- at entry there is a node, the last one is within the image, and the rule's text has room
+the-node : (t : ℕ) (c : put-rule-lts.Start (given t) (put-rule-at t) put-rule.Post put-rule-Inv-loop put-rule-μ-loop) → (0 < c .args .size) × (c .args .from + c .args .size ≤ c .args .n)
+the-node t c =
+    let h = c .pre .1 .0 in
+    (omega (arith, size-pos (h .here .rule), h .here .sized), h .within)
+
+the-fit : (t : ℕ) (c : put-rule-lts.Start (given t) (put-rule-at t) put-rule.Post put-rule-Inv-loop put-rule-μ-loop) → length (textOf (c .pre .1 .0 .here .rule)) ≤ c .args .end
+the-fit t c = let h = c .pre .1 .0 .here in c .pre .1 .1 (h .rule) (h .sized) (h .stands)
+
+put-rule-add-at : (t : ℕ) → put-rule-lts.Need-add-at (given t) (put-rule-at t) put-rule.Post put-rule-Inv-loop put-rule-μ-loop
+put-rule-add-at t c = omega arith
+
+put-rule-sub-at : (t : ℕ) → put-rule-lts.Need-sub-at (given t) (put-rule-at t) put-rule.Post put-rule-Inv-loop put-rule-μ-loop
+put-rule-sub-at t c = omega (arith, the-node t (c .before .before))
+
+put-rule-node-at-requires : (t : ℕ) → put-rule-lts.Need-node-at-requires (given t) (put-rule-at t) put-rule.Post put-rule-Inv-loop put-rule-μ-loop
+put-rule-node-at-requires t c κs = (c .before .before .pre .1 .0 .long, omega (arith, the-node t (c .before .before)))
+
+put-rule-put-leaf-requires : (t : ℕ) → put-rule-lts.Need-put-leaf-requires (given t) (put-rule-at t) put-rule.Post put-rule-Inv-loop put-rule-μ-loop
+put-rule-put-leaf-requires t c κs =
+    let s = c .before .before .before .before .before in
+    let d = c .before .before .node-at .ensures in
+    let h = s .pre .1 .0 .here in (
+      name-inside _ _ _ d (s .pre .1 .0 .names) (omega (arith, the-node t s)),
+      rw (leaf-text _ _ _ _ _ d (omega (arith, the-node t s)) (c .before .if1 .taken) (h .rule) (h .sized) (h .stands)) (the-fit t s),
+      s .pre .1 .2,
+    )
+
+put-rule-same-length : (t : ℕ) → put-rule-lts.Need-same-length (given t) (put-rule-at t) put-rule.Post put-rule-Inv-loop put-rule-μ-loop
+put-rule-same-length t c = search needs
+
+put-rule-returns : (t : ℕ) → put-rule-lts.Need-returns (given t) (put-rule-at t) put-rule.Post put-rule-Inv-loop put-rule-μ-loop
+put-rule-returns t c = λ ρ e st.
+    let s = c .before .before .before .before .before .before .before .before in
+    rw (← leaf-text _ _ _ _ _ (c .before .before .before .before .before .node-at .ensures) (omega (arith, the-node t s)) (c .before .before .before .before .if1 .taken) ρ e st) (c .before .before .put-leaf .ensures)
+
+put-rule-loop-holds : (t : ℕ) → put-rule-lts.Need-loop-holds (given t) (put-rule-at t) put-rule.Post put-rule-Inv-loop put-rule-μ-loop
+put-rule-loop-holds t c = (omega arith, walks-start _ _ _ _ _ (c .before .node-at .ensures) (omega (arith, the-node t (c .before .before .before .before))) (c .if1 .left) (put-none _ _))
+
+put-rule-sub-node-at : (t : ℕ) → put-rule-lts.Need-sub-node-at (given t) (put-rule-at t) put-rule.Post put-rule-Inv-loop put-rule-μ-loop
+put-rule-sub-node-at t c = omega arith
+
+put-rule-node-at-requires-2 : (t : ℕ) → put-rule-lts.Need-node-at-requires-2 (given t) (put-rule-at t) put-rule.Post put-rule-Inv-loop put-rule-μ-loop
+put-rule-node-at-requires-2 t c κs =
+    let s = c .before .before .before .before .before .before in
+    (s .pre .1 .0 .long, omega (arith, c .before .loop .inv .0, the-node t s))
+
+-- the child that a turn puts
+the-turn : (t : ℕ) (c : put-rule-lts.After-node-at2 (given t) (put-rule-at t) put-rule.Post put-rule-Inv-loop put-rule-μ-loop) →
+    let s = c .before .before .before .before .before .before .before in
+    let d = c .before .before .before .before .node-at .result in
+    let i = c .before .before .loop in
+    Turn (s .args .image .now) (s .args .n) (d .kind) (d .arg) (s .args .from) (s .args .size) (i .stop) (λ t. Put (s .args .text .now) (i .text) (i .to) (s .args .end) t) (s .pre .1 .0 .here .rule) (nodeOf (c .node-at2 .result))
+the-turn t c =
+    let h = c .before .before .before .before .before .before .before .pre .1 .0 .here in
+    let i = c .before .before .loop .inv in
+    turn _ _ _ _ _ (i .1) (i .0) (c .before .loop-test .taken) (c .node-at2 .ensures) (h .rule) (h .sized) (h .stands)
+
+put-rule-put-back-requires : (t : ℕ) → put-rule-lts.Need-put-back-requires (given t) (put-rule-at t) put-rule.Post put-rule-Inv-loop put-rule-μ-loop
+put-rule-put-back-requires t c κs =
+    let s = c .before .before .before .before .before .before .before .before in
+    let u = the-turn t (c .before) in
+    (omega (arith, pieces-room (the-fit t s) u), put-start (s .pre .1 .2) (u .holds))
+
+put-rule-sub-stop : (t : ℕ) → put-rule-lts.Need-sub-stop (given t) (put-rule-at t) put-rule.Post put-rule-Inv-loop put-rule-μ-loop
+put-rule-sub-stop t c = omega (arith, the-turn t (c .before .before .before .before) .fits)
+
+-- where its back begins there is room for its text, inside the buffer
+the-place : (t : ℕ) (c : put-rule-lts.After-struct-known (given t) (put-rule-at t) put-rule.Post put-rule-Inv-loop put-rule-μ-loop) →
+    let s = c .before .before .before .before .before .before .before .before .before .before .before .before .args in
+    let d = c .before .before .before .before .before .node-at2 .result in
+    let p = c .before .before .before .put-back in
+    ((q : Rule) → size q ≡ d .size → Stands q (cellAt (s .image .now) (s .n)) (c .before .before .before .before .before .before .before .loop .stop - d .size) → length (textOf q) ≤ p .result) × (p .result ≤ length (p .last .1 .1 .1 .0))
+the-place t c =
+    let s = c .before .before .before .before .before .before .before .before .before .before .before .before in
+    let u = the-turn t (c .before .before .before .before .before) in
+    let p = c .before .before .before .put-back in
+    (child-room (the-fit t s) u (p .ensures .ends), omega (arith, p .ensures .ends, put-start (s .pre .1 .2) (u .holds)))
+
+put-rule-put-leaf-requires-2 : (t : ℕ) → put-rule-lts.Need-put-leaf-requires-2 (given t) (put-rule-at t) put-rule.Post put-rule-Inv-loop put-rule-μ-loop
+put-rule-put-leaf-requires-2 t c κs =
+    let s = c .before .before .before .before .before .before .before .before .before .before .before .before .before .before in
+    let d = c .before .before .before .before .before .before .before .node-at2 .ensures in
+    let u = the-turn t (c .before .before .before .before .before .before .before) in
+    let (room, long) = the-place t (c .before .before) in (
+      name-inside _ _ _ d (s .pre .1 .0 .names) (omega (arith, c .before .before .before .before .before .before .before .before .before .loop .inv .0, the-node t s)),
+      rw (leaf-text _ _ _ _ _ d (omega (arith, u .some, u .fits)) (c .before .if2 .taken) (u .child) (u .sized) (u .stands)) (room (u .child) (u .sized) (u .stands)),
+      long,
+    )
+
+put-rule-put-rule-requires : (t : ℕ) → put-rule-lts.Need-put-rule-requires (given t) (put-rule-at t) put-rule.Post put-rule-Inv-loop put-rule-μ-loop
+put-rule-put-rule-requires t c κs =
+    let s = c .before .before .before .before .before .before .before .before .before .before .before .before .before .before in
+    let i = s .pre .1 .0 in
+    let u = the-turn t (c .before .before .before .before .before .before .before) in
+    let pos = u .some in
+    let fits = u .fits in
+    let le = c .before .before .before .before .before .before .before .before .before .loop .inv .0 in
+    let (room, long) = the-place t (c .before .before) in (
+      omega (arith, s .pre .0),
+      (
+        record { long = i .long; names = i .names; within = omega (arith, the-node t s); here = record { rule = u .child; sized = u .sized; stands = u .stands } },
+        room,
+        long,
+      ),
+    )
+
+-- its text is put, by either way
+the-text : (t : ℕ) (c : put-rule-lts.Joined2 (given t) (put-rule-at t) put-rule.Post put-rule-Inv-loop put-rule-μ-loop) →
+    let s = c .before .before .before .before .before .before .before .before .before .before .before .before .before .args in
+    let d = c .before .before .before .before .before .before .node-at2 .result in
+    let p = c .before .before .before .before .put-back in
+    (q : Rule) → size q ≡ d .size → Stands q (cellAt (s .image .now) (s .n)) (c .before .before .before .before .before .before .before .before .loop .stop - d .size) → Put (p .last .1 .1 .1 .0) (c .if2 .text) (c .if2 .to) (p .result) (textOf q)
+the-text t c q e st =
+    let u = the-turn t (c .before .before .before .before .before .before) in
+    ⊎-elim (λ w. rw (w .5, w .6, ← leaf-text _ _ _ _ _ (c .before .before .before .before .before .before .node-at2 .ensures) (omega (arith, u .some, u .fits)) (w .0 .taken) q e st) (w .2 .ensures)) (λ w. rw (w .5, w .6) (w .2 .ensures q e st)) (c .if2 .came)
+
+put-rule-put-front-requires : (t : ℕ) → put-rule-lts.Need-put-front-requires (given t) (put-rule-at t) put-rule.Post put-rule-Inv-loop put-rule-μ-loop
+put-rule-put-front-requires t c κs =
+    let s = c .before .before .before .before .before .before .before .before .before .before .before .before .before .before in
+    let u = the-turn t (c .before .before .before .before .before .before .before) in
+    let (room, long) = the-place t (c .before .before) in
+    let p = c .before .before .before .before .before .put-back .ensures .ends in
+    let x = the-text t (c .before) (u .child) (u .sized) (u .stands) in
+    let q = x .ends in
+    (omega (arith, pieces-room (the-fit t s) u), put-start long x)
+
+put-rule-loop-less : (t : ℕ) → put-rule-lts.Need-loop-less (given t) (put-rule-at t) put-rule.Post put-rule-Inv-loop put-rule-μ-loop
+put-rule-loop-less t c = let u = the-turn t (c .before .before .before .before .before .before .before .before .before .before) in omega (arith, u .some, u .fits)
+
+put-rule-loop-again : (t : ℕ) → put-rule-lts.Need-loop-again (given t) (put-rule-at t) put-rule.Post put-rule-Inv-loop put-rule-μ-loop
+put-rule-loop-again t c =
+    let long = c .before .before .before .before .before .before .before .before .before .before .before .before .before .before .before .before .before .pre .1 .2 in
+    let i = c .before .before .before .before .before .before .before .before .before .before .before .before .loop .inv in
+    (omega (arith, i .0), walks-next _ _ _ _ _ (i .1) (i .0) (c .before .before .before .before .before .before .before .before .before .before .before .loop-test .taken) (c .before .before .before .before .before .before .before .before .before .before .node-at2 .ensures) (λ q v e st h. put-before long (put-before long (put-before long h (c .before .before .before .before .before .before .before .before .put-back .ensures)) (the-text t (c .before .before .before .before) q e st)) (c .before .before .put-front .ensures)))
+
+put-rule-put-opening-requires : (t : ℕ) → put-rule-lts.Need-put-opening-requires (given t) (put-rule-at t) put-rule.Post put-rule-Inv-loop put-rule-μ-loop
+put-rule-put-opening-requires t c κs =
+    let s = c .before .before .before .before .before .before .before in
+    let h = s .pre .1 .0 .here in
+    let (v, e, x) = walks-done _ _ _ _ _ (c .before .before .loop .inv .1) (c .before .loop-test .left) (h .rule) (h .sized) (h .stands) in
+    (omega (arith, x .ends, the-fit t s, simp length-append at (ap length e)), put-start (s .pre .1 .2) x)
+
+put-rule-same-length-2 : (t : ℕ) → put-rule-lts.Need-same-length-2 (given t) (put-rule-at t) put-rule.Post put-rule-Inv-loop put-rule-μ-loop
+put-rule-same-length-2 t c =
+    let s = c .before .before .before .before .before .before .before .before .before .before in
+    let h = s .pre .1 .0 .here in
+    let (v, e, x) = walks-done _ _ _ _ _ (c .before .before .before .before .before .loop .inv .1) (c .before .before .before .before .loop-test .left) (h .rule) (h .sized) (h .stands) in
+    omega (arith, put-length (s .pre .1 .2) x)
+
+put-rule-returns-2 : (t : ℕ) → put-rule-lts.Need-returns-2 (given t) (put-rule-at t) put-rule.Post put-rule-Inv-loop put-rule-μ-loop
+put-rule-returns-2 t c = λ ρ e st.
+    let (v, p, x) = walks-done _ _ _ _ _ (c .before .before .before .before .before .loop .inv .1) (c .before .before .before .before .loop-test .left) ρ e st in
+    rw p (put-before (c .before .before .before .before .before .before .before .before .before .before .pre .1 .2) x (c .before .before .put-opening .ensures))
+
+pub +put-rule-spec : {M : Type 1} → statement M
++put-rule-spec = close μ-put-rule λ t. put-rule-lts.spec (given t)
+    (put-rule-at t)
+    put-rule.Post
+    put-rule-Inv-loop
+    put-rule-μ-loop
+    (put-rule-add-at t)
+    (put-rule-sub-at t)
+    (put-rule-node-at-requires t)
+    (put-rule-put-leaf-requires t)
+    (put-rule-same-length t)
+    (put-rule-returns t)
+    (put-rule-loop-holds t)
+    (put-rule-sub-node-at t)
+    (put-rule-node-at-requires-2 t)
+    (put-rule-put-back-requires t)
+    (put-rule-sub-stop t)
+    (put-rule-put-leaf-requires-2 t)
+    (put-rule-put-rule-requires t)
+    (put-rule-put-front-requires t)
+    (put-rule-loop-less t)
+    (put-rule-loop-again t)
+    (put-rule-put-opening-requires t)
+    (put-rule-same-length-2 t)
+    (put-rule-returns-2 t)

@@ -1,0 +1,16 @@
+-- `print_size::is_bracketed` meets its contract. Assumes nothing.
+use borrow.Author.Tests.{ne-eqb}
+use Rattle.print_text.specs.Inner.Pieces.{bracketedOf}
+use Rattle.print_size.proofs.is_bracketed.Statement.{statement}
+use Rattle.print_size.proofs.is_bracketed.Tie as tie
+
+returns : tie.Need-returns
+unfolding bracketedOf
+returns c = rw (c .if1 .taken)
+
+returns-2 : tie.Need-returns-2
+unfolding bracketedOf
+returns-2 c = rw (ne-eqb (c .before .args .kind) 4 (c .if1 .left))
+
+pub is-bracketed-spec : {M : Type 1} → statement M
+is-bracketed-spec = tie.close (tie.spec returns returns-2)

@@ -1,0 +1,102 @@
+// How many bytes the text of a rule has.
+ghost use mathlib.Core.Path.{_≡_};
+ghost use Prim.Native.Nat.{_+_, _*_, _≤_, _/_, _%_};
+ghost use lib.ListN.{length};
+ghost use Rattle.rules.specs.Rule.{Rule};
+ghost use Rattle.rules.specs.Rule.{size as sizeOf};
+ghost use Rattle.image.specs.Decode.{cellAt};
+ghost use Rattle.image.specs.Inner.Standing.{Stands};
+ghost use Rattle.image.specs.Inner.Subtree.{Inside};
+ghost use Rattle.print_text.specs.Inner.Pieces.{bracketedOf, leafIn, openingOf, behindOf, frontOf, backOf};
+ghost use Rattle.print_text.specs.Print.{textOf};
+use decimal::digits::digit_count;
+use duration_text::duration_size;
+use image::name_of;
+use image::node_at;
+
+// Whether a child of one kind stands in brackets under a combinator of another.
+pub fn is_bracketed(kind: u64, child: u64) -> bool
+    ensures { λ r. ⌜ r ≡ bracketedOf kind child ⌝ }
+{
+    kind == 4 && child == 5
+}
+
+// The bytes of a leaf.
+fn leaf_size(image: &[u8], n: usize, kind: u64, arg: u64) -> usize
+    requires { ⌜ (kind ≡ 0 → 4 + 12 * n + arg / 65536 + arg % 65536 ≤ length (now image)) ⌝ }
+    ensures { λ r. ⌜ r ≡ length (leafIn (now (image .entry)) n kind arg) ⌝ }
+{
+    match kind {
+        0 => name_of(image, n, arg).len(),
+        1 => 12 + duration_size(arg),
+        2 => 10 + digit_count(arg),
+        _ => 0,
+    }
+}
+
+// The bytes before a combinator's children.
+fn opening_size(kind: u64, arg: u64) -> usize
+    ensures { λ r. ⌜ r ≡ length (openingOf kind arg) ⌝ }
+{
+    match kind {
+        3 => 11 + digit_count(arg),
+        _ => 0,
+    }
+}
+
+// The bytes behind a child that is the last, or is not.
+fn behind_size(kind: u64, last: bool) -> usize
+    ensures { λ r. ⌜ r ≡ length (behindOf kind last) ⌝ }
+{
+    if last {
+        match kind {
+            3 => 1,
+            _ => 0,
+        }
+    } else {
+        match kind {
+            3 => 2,
+            4 => 4,
+            5 => 4,
+            _ => 0,
+        }
+    }
+}
+
+// The bytes round a child's own text: brackets, and what stands behind it.
+fn around_size(kind: u64, child: u64, last: bool) -> usize
+    ensures { λ r. ⌜ r ≡ length (frontOf kind child) + length (backOf kind child last) ⌝ }
+{
+    if is_bracketed(kind, child) {
+        return 2 + behind_size(kind, last);
+    }
+    behind_size(kind, last)
+}
+
+// The bytes of the rule whose nodes are the `size` from `from` on: the size falls at each call.
+pub fn text_size(image: &[u8], n: usize, from: usize, size: usize) -> usize
+    requires { ⌜ Inside (now image) n from size × (n ≤ 2048) ⌝ }
+    ensures { λ r. ⌜ ((ρ : Rule) → sizeOf ρ ≡ size → Stands ρ (cellAt (now (image .entry)) n) from → r ≡ length (textOf ρ)) ⌝ }
+{
+    let at = from + size - 1;
+    let root = node_at(image, n, at);
+    let kind = root.kind;
+    let arg = root.arg;
+    if kind < 3 {
+        return leaf_size(image, n, kind, arg);
+    }
+    let mut end = at;
+    let mut total = opening_size(kind, arg);
+    while from < end {
+        let child = node_at(image, n, end - 1);
+        let back = child.size;
+        total += around_size(kind, child.kind, end == at);
+        end -= back;
+        if child.kind < 3 {
+            total += leaf_size(image, n, child.kind, child.arg);
+        } else {
+            total += text_size(image, n, end, back);
+        }
+    }
+    total
+}

@@ -1,0 +1,1 @@
+// The text of a rule: definitions and laws, no code.

@@ -1,0 +1,1 @@
+// Rules as trees: definitions, no code.

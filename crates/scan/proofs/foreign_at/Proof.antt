@@ -1,0 +1,73 @@
+-- `scan::foreign_at` meets its contract: while the bytes are not foreign, the run ends where it did. Assumes nothing.
+use mathlib.Core.Bool.{not}
+use mathlib.Core.Path.{_≡_, refl, sym, ap, _∙_}
+use Prim.Native.Nat.{_-_}
+use native.Mathlib.Omega.{arith}
+use borrow.Author.Needs.{needs}
+use lib.ListN.{length}
+use Rattle.slices.specs.Text.{runEnd}
+use Rattle.slices.proofs.Laws.TextLaws.{end-out, end-stop, end-on}
+use Rattle.ascii.proofs.Laws.TestLaws.{is-so, is-not}
+use Rattle.tokens.specs.Token.{ascii}
+use Rattle.tokens.proofs.Laws.ForeignLaws.{none-foreign}
+use Rattle.scan.proofs.foreign_at.Statement.{statement}
+use Rattle.scan.proofs.foreign_at.Tie as tie
+
+abbrev Inv-loop : tie.InvT-loop
+Inv-loop text class i₀ i = runEnd ascii text i ≡ runEnd ascii text 0
+
+abbrev μ-loop : tie.MeasureT-loop
+μ-loop text class i₀ i = length text - i
+
+largest-from-requires : tie.Need-largest-from-requires Inv-loop μ-loop
+largest-from-requires c κs = search needs
+
+returns : tie.Need-returns Inv-loop μ-loop
+returns c = sym (none-foreign _ (omega arith))
+
+loop-holds : tie.Need-loop-holds Inv-loop μ-loop
+loop-holds c = refl
+
+shared-slice-read-class-at : tie.Need-shared-slice-read-class-at Inv-loop μ-loop
+shared-slice-read-class-at c = omega arith
+
+class-at-requires : tie.Need-class-at-requires Inv-loop μ-loop
+class-at-requires c κs = search needs
+
+returns-2 : tie.Need-returns-2 Inv-loop μ-loop
+unfolding ascii
+returns-2 c =
+    let l = c .before .before .before .before .loop in
+    sym (end-stop _ _ (l .i) (omega arith) (ap not (is-so (c .before .class-at .ensures) refl (c .if2 .taken)))) ∙ l .inv
+
+add-i : tie.Need-add-i Inv-loop μ-loop
+add-i c = omega arith
+
+loop-less : tie.Need-loop-less Inv-loop μ-loop
+loop-less c = omega arith
+
+loop-again : tie.Need-loop-again Inv-loop μ-loop
+unfolding ascii
+loop-again c =
+    let l = c .before .before .before .before .loop in
+    sym (end-on _ _ (l .i) (omega arith) (ap not (is-not (c .before .class-at .ensures) refl (c .if2 .left)))) ∙ l .inv
+
+returns-3 : tie.Need-returns-3 Inv-loop μ-loop
+returns-3 c = let l = c .before .loop in sym (end-out _ _ (l .i) (omega arith)) ∙ l .inv
+
+pub foreign-at-spec : {M : Type 1} → statement M
+foreign-at-spec =
+    tie.close
+    (tie.spec
+    Inv-loop
+    μ-loop
+    largest-from-requires
+    returns
+    loop-holds
+    shared-slice-read-class-at
+    class-at-requires
+    returns-2
+    add-i
+    loop-less
+    loop-again
+    returns-3)

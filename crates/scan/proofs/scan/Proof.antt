@@ -1,0 +1,68 @@
+-- `scan::scan` meets its contract. Assumes nothing.
+use mathlib.Core.Path.{_≡_, refl, sym, ap, _∙_}
+use Prim.Native.Nat.{_-_}
+use native.Mathlib.Omega.{arith}
+use borrow.Author.Needs.{needs}
+use lib.ListN.{length}
+use Rattle.tokens.specs.Token.{nextOf, tokensFrom, lastOf, scanOf}
+use Rattle.tokens.proofs.Laws.TokenLaws.{goes-on, scan-on, scan-end}
+use Rattle.scan.proofs.scan.Statement.{statement}
+use Rattle.scan.proofs.scan.Tie as tie
+
+abbrev Inv-loop : tie.InvT-loop
+Inv-loop text class at₀ at = scanOf (tokensFrom text at) ≡ scanOf (tokensFrom text 0)
+
+abbrev μ-loop : tie.MeasureT-loop
+μ-loop text class at₀ at = length text - at
+
+loop-holds : tie.Need-loop-holds Inv-loop μ-loop
+loop-holds c = refl
+
+token-at-requires : tie.Need-token-at-requires Inv-loop μ-loop
+token-at-requires c κs = search needs
+
+next-of-requires : tie.Need-next-of-requires Inv-loop μ-loop
+next-of-requires c κs = search needs
+
+enum-told : tie.Need-enum-told Inv-loop μ-loop
+enum-told c = search needs
+
+last-of-requires : tie.Need-last-of-requires Inv-loop μ-loop
+last-of-requires c κs = search needs
+
+returns : tie.Need-returns Inv-loop μ-loop
+returns c =
+    let m = c .before .before in
+    let here = m .before .before .token-at .ensures in
+    let off = ap nextOf (sym here) ∙ sym (m .before .next-of .ensures) ∙ c .before .enum-told .given .1 in
+    c .last-of .ensures ∙ ap lastOf here ∙ sym (scan-end _ _ off) ∙ m .before .before .before .loop .inv
+
+enum-known-next : tie.Need-enum-known-next Inv-loop μ-loop
+enum-known-next c = search needs
+
+loop-less : tie.Need-loop-less Inv-loop μ-loop
+loop-less c =
+    let m = c .before .before in
+    let on = goes-on _ _ (ap nextOf (sym (m .before .before .token-at .ensures)) ∙ sym (m .before .next-of .ensures) ∙ c .before .next .given .1) in
+    omega arith
+
+loop-again : tie.Need-loop-again Inv-loop μ-loop
+loop-again c =
+    let m = c .before .before in
+    sym (scan-on _ _ (ap nextOf (sym (m .before .before .token-at .ensures)) ∙ sym (m .before .next-of .ensures) ∙ c .before .next .given .1)) ∙ m .before .before .before .loop .inv
+
+pub scan-spec : {M : Type 1} → statement M
+scan-spec =
+    tie.close
+    (tie.spec
+    Inv-loop
+    μ-loop
+    loop-holds
+    token-at-requires
+    next-of-requires
+    enum-told
+    last-of-requires
+    returns
+    enum-known-next
+    loop-less
+    loop-again)

@@ -1,0 +1,4 @@
+pub mod TextLaws
+pub mod SearchLaws
+pub mod WrittenLaws
+pub mod AsciiLaws

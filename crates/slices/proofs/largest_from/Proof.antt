@@ -1,0 +1,54 @@
+-- `slices::largest_from` meets its contract: the largest byte so far, or the largest of those left. Assumes nothing.
+use mathlib.Core.Path.{_≡_}
+use mathlib.Core.Logic.{⊎-elim}
+use Prim.Native.Nat.{_-_, max}
+use native.Mathlib.Omega.{arith}
+use lib.ListN.{length, drop}
+use Rattle.slices.specs.Search.{largest}
+use Rattle.slices.proofs.Laws.SearchLaws.{largest-out, largest-on}
+use Rattle.slices.proofs.largest_from.Statement.{statement}
+use Rattle.slices.proofs.largest_from.Tie as tie
+
+abbrev Inv-loop : tie.InvT-loop
+Inv-loop s at most₀ i₀ most i = max most (largest (drop i s)) ≡ largest (drop at s)
+
+abbrev μ-loop : tie.MeasureT-loop
+μ-loop s at most₀ i₀ most i = length s - i
+
+loop-holds : tie.Need-loop-holds Inv-loop μ-loop
+loop-holds c = omega arith
+
+shared-slice-read-if1 : tie.Need-shared-slice-read-if1 Inv-loop μ-loop
+shared-slice-read-if1 c = omega arith
+
+shared-slice-read-most : tie.Need-shared-slice-read-most Inv-loop μ-loop
+shared-slice-read-most c = omega arith
+
+add-i : tie.Need-add-i Inv-loop μ-loop
+add-i c = omega arith
+
+loop-less : tie.Need-loop-less Inv-loop μ-loop
+loop-less c = omega arith
+
+loop-again : tie.Need-loop-again Inv-loop μ-loop
+loop-again c =
+    let l = c .before .before .before in
+    let on = largest-on (l .before .args .s .now) (l .loop .i) (omega arith) in
+    ⊎-elim (λ v. omega (arith, v .2)) (λ v. omega (arith, v .1)) (c .if1 .came)
+
+returns : tie.Need-returns Inv-loop μ-loop
+returns c = omega (arith, largest-out (c .before .before .args .s .now) (c .before .loop .i) (omega arith))
+
+pub largest-from-spec : {M : Type 1} → statement M
+largest-from-spec =
+    tie.close
+    (tie.spec
+    Inv-loop
+    μ-loop
+    loop-holds
+    shared-slice-read-if1
+    shared-slice-read-most
+    add-i
+    loop-less
+    loop-again
+    returns)

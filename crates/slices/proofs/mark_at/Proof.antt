@@ -1,0 +1,58 @@
+-- `slices::mark_at` meets its contract: while the bytes are no such mark, the run ends where it did. Assumes nothing.
+use mathlib.Core.Bool.{not}
+use mathlib.Core.Path.{_≡_, refl, sym, ap, _∙_}
+use Prim.Native.Nat.{_-_}
+use native.Mathlib.Omega.{arith}
+use borrow.Author.Tests.{eq-eqb, ne-eqb}
+use lib.ListN.{length}
+use Rattle.slices.specs.Text.{runEnd, other}
+use Rattle.slices.proofs.Laws.TextLaws.{end-out, end-stop, end-on}
+use Rattle.slices.proofs.mark_at.Statement.{statement}
+use Rattle.slices.proofs.mark_at.Tie as tie
+
+abbrev Inv-loop : tie.InvT-loop
+Inv-loop text at mark i₀ i = runEnd (other mark) text i ≡ runEnd (other mark) text at
+
+abbrev μ-loop : tie.MeasureT-loop
+μ-loop text at mark i₀ i = length text - i
+
+loop-holds : tie.Need-loop-holds Inv-loop μ-loop
+loop-holds c = refl
+
+shared-slice-read-if1 : tie.Need-shared-slice-read-if1 Inv-loop μ-loop
+shared-slice-read-if1 c = omega arith
+
+returns : tie.Need-returns Inv-loop μ-loop
+unfolding other
+returns c =
+    let l = c .before .before .before .loop in
+    sym (end-stop _ _ (l .i) (omega arith) (ap not (eq-eqb _ _ (c .if1 .taken)))) ∙ l .inv
+
+add-i : tie.Need-add-i Inv-loop μ-loop
+add-i c = omega arith
+
+loop-less : tie.Need-loop-less Inv-loop μ-loop
+loop-less c = omega arith
+
+loop-again : tie.Need-loop-again Inv-loop μ-loop
+unfolding other
+loop-again c =
+    let l = c .before .before .before .loop in
+    sym (end-on _ _ (l .i) (omega arith) (ap not (ne-eqb _ _ (c .if1 .left)))) ∙ l .inv
+
+returns-2 : tie.Need-returns-2 Inv-loop μ-loop
+returns-2 c = let l = c .before .loop in sym (end-out _ _ (l .i) (omega arith)) ∙ l .inv
+
+pub mark-at-spec : {M : Type 1} → statement M
+mark-at-spec =
+    tie.close
+    (tie.spec
+    Inv-loop
+    μ-loop
+    loop-holds
+    shared-slice-read-if1
+    returns
+    add-i
+    loop-less
+    loop-again
+    returns-2)

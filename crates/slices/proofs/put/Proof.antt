@@ -1,0 +1,69 @@
+-- `slices::put` meets its contract: after i turns the first i bytes are written. Assumes nothing.
+use mathlib.Core.Path.{_≡_, refl}
+use Prim.Native.Nat.{_-_, _≤_}
+use native.Mathlib.Omega.{arith}
+use borrow.Author.Needs.{needs}
+use lib.ListN.{length, take}
+use lib.Seq.{take-all}
+use Rattle.slices.specs.Written.{written}
+use Rattle.slices.proofs.Laws.WrittenLaws.{written-none, copied-on}
+use Rattle.slices.proofs.put.Statement.{statement}
+use Rattle.slices.proofs.put.Tie as tie
+
+abbrev Inv-loop : tie.InvT-loop
+Inv-loop text₀ end piece start i₀ text i = (i ≤ length piece) × (length text ≡ length text₀) × (text ≡ written text₀ start (take i piece))
+
+abbrev μ-loop : tie.MeasureT-loop
+μ-loop text₀ end piece start i₀ text i = length piece - i
+
+sub-start : tie.Need-sub-start Inv-loop μ-loop
+sub-start c = omega arith
+
+loop-holds : tie.Need-loop-holds Inv-loop μ-loop
+loop-holds c = (omega arith, refl, written-none _ _)
+
+shared-slice-read-text : tie.Need-shared-slice-read-text Inv-loop μ-loop
+shared-slice-read-text c = omega arith
+
+add-text : tie.Need-add-text Inv-loop μ-loop
+add-text c = omega arith
+
+slice-write-text : tie.Need-slice-write-text Inv-loop μ-loop
+slice-write-text c = omega arith
+
+add-i : tie.Need-add-i Inv-loop μ-loop
+add-i c = omega arith
+
+loop-less : tie.Need-loop-less Inv-loop μ-loop
+loop-less c = omega arith
+
+loop-again : tie.Need-loop-again Inv-loop μ-loop
+loop-again c =
+    let l = c .before .before .loop in
+    (omega arith, search needs, copied-on _ _ (omega arith) _ (l .i) (omega arith) (l .inv .2) (omega arith))
+
+same-length : tie.Need-same-length Inv-loop μ-loop
+same-length c = search needs
+
+returns : tie.Need-returns Inv-loop μ-loop
+returns c =
+    let l = c .before .loop in
+    let piece = c .before .before .args .piece .now in
+    record { ends = omega arith; text = rw (take-all (l .i) piece (omega arith)) at (l .inv .2) }
+
+pub put-spec : {M : Type 1} → statement M
+put-spec =
+    tie.close
+    (tie.spec
+    Inv-loop
+    μ-loop
+    sub-start
+    loop-holds
+    shared-slice-read-text
+    add-text
+    slice-write-text
+    add-i
+    loop-less
+    loop-again
+    same-length
+    returns)

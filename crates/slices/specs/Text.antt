@@ -1,0 +1,38 @@
+-- A text is the list of its bytes: what a literal stands for, a part of a text, and how far a run of like bytes goes.
+-- Assumes nothing.
+use Prim.Native.Nat.{ℕ, suc, _+_, _-_}
+use Prim.Native.Char.{code}
+use Prim.Native.String.{String}
+use Prim.Native.String as String
+use mathlib.Core.Bool.{Bool, true, not, cond, _&&_}
+use mathlib.Core.List.{List, [], _∷_}
+use lib.Dec.{ltb, eqb}
+use lib.ListN.{take, drop}
+
+-- the bytes of a literal, which is ASCII
+abbrev pub bytes : String → List ℕ
+bytes String.[] = []
+bytes (String._∷_ c s) = code c ∷ bytes s
+
+-- the part of a text from one position up to another
+unfoldable pub part : List ℕ → ℕ → ℕ → List ℕ
+part s from to = take (to - from) (drop from s)
+
+-- how many bytes at the head of a list pass a test
+unfoldable pub run : (ℕ → Bool) → List ℕ → ℕ
+run p [] = 0
+run p (b ∷ s) = let more = suc (run p s) in cond (p b) more 0
+
+-- where the run of bytes that pass a test, from a position on, ends
+unfoldable pub runEnd : (ℕ → Bool) → List ℕ → ℕ → ℕ
+unfolding run
+runEnd p s at = at + run p (drop at s)
+
+-- the byte is not this mark
+unfoldable pub other : ℕ → ℕ → Bool
+other mark b = not (eqb b mark)
+
+-- all bytes are below 128
+unfoldable pub allAscii : List ℕ → Bool
+allAscii [] = true
+allAscii (b ∷ bs) = ltb b 128 && allAscii bs

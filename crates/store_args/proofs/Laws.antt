@@ -1,0 +1,5 @@
+pub mod ArgumentsLaws
+pub mod FillLaws
+pub mod GivenLaws
+pub mod MadeLaws
+pub mod SplitLaws

@@ -1,0 +1,15 @@
+pub mod AllNamesLaws
+pub mod BlankLaws
+pub mod EntriesLaws
+pub mod EntryLaws
+pub mod IndexLaws
+pub mod ListBytesLaws
+pub mod LookupLaws
+pub mod MarkLaws
+pub mod MemberLaws
+pub mod NamesLaws
+pub mod PartLaws
+pub mod SameLaws
+pub mod StoresLaws
+pub mod TableBytesLaws
+pub mod WalkLaws

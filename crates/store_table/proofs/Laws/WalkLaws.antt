@@ -1,0 +1,60 @@
+-- A walk over the entries of a table or a list, by their modes, their lengths and where the next name begins. Assumes nothing.
+use mathlib.Core.Path.{_≡_, refl, sym, ap, _∙_}
+use mathlib.Core.List.{List, [], _∷_}
+use Prim.Native.Nat.{ℕ, _+_, _-_, _*_, _≤_, _<_}
+use native.Mathlib.Omega.{arith}
+use lib.ListN.{length, take, drop, getD, length-drop}
+use lib.Seq.{length-take-le, take-all, drop-drop}
+use Rattle.store_table.specs.Stores.{Entry, entriesFrom, entriesIn, countIn, modesIn, lengthsIn, sum, Laid}
+use Rattle.store_table.proofs.Laws.PartLaws.{part-at, sum-on}
+use Rattle.store_table.specs.Inner.Index.{Standing}
+
+-- ---- there are as many entries as the count says
+length-from : (n : ℕ) (ms ls bs : List ℕ) → length ms ≡ n → length ls ≡ n → length (entriesFrom ms ls bs) ≡ n
+unfolding entriesFrom
+length-from n [] ls bs p q = p
+length-from n (m ∷ ms) [] bs p q = q
+length-from n (m ∷ ms) (l ∷ ls) bs p q =
+    let e = length-from (length ms) ms ls (drop l bs) refl (omega arith) in
+    omega arith
+
+pub length-entries : (s : List ℕ) → Laid s → length (entriesIn s) ≡ countIn s
+unfolding entriesIn
+length-entries s h = length-from (countIn s) (modesIn s) (lengthsIn s) _ (length-take-le _ _ (simp length-drop (omega arith))) (length-take-le _ _ (simp length-drop (omega arith)))
+
+pub entries-all : (s : List ℕ) (count : ℕ) → Laid s → count ≡ countIn s → take count (entriesIn s) ≡ entriesIn s
+entries-all s count h e = take-all count (entriesIn s) (omega (arith, length-entries s h))
+
+pub standing-start : (s : List ℕ) (count : ℕ) → Laid s → count ≡ countIn s → Standing s count 0 (4 + 2 * count)
+unfolding entriesIn
+standing-start s count h e = record { laid = h; counted = e; fills = omega (arith, h .names); rest = rw e }
+
+-- entry k, whose name has the bytes from `at` up to `at + len`
+abbrev pub entryAt : List ℕ → ℕ → ℕ → ℕ → Entry
+entryAt s k at len = record { mode = getD s (4 + k) 0; name = take (at + len - at) (drop at s) }
+
+-- one entry more, of this length
+module _ {s : List ℕ} {count k at : ℕ} (h : Standing s count k at) (lt : k < count) {len : ℕ} (e : len ≡ getD s (4 + count + k) 0) where
+  length-at : len ≡ getD s (4 + countIn s + k) 0
+  length-at = e ∙ rw (h .counted)
+
+  rest-on : drop k (entriesIn s) ≡ entryAt s k at len ∷ entriesFrom (drop (k + 1) (modesIn s)) (drop (k + 1) (lengthsIn s)) (drop (at + len) s)
+  unfolding entriesFrom
+  rest-on =
+      let p : at + len - at ≡ len = omega arith in
+      h .rest ∙ rw (p, length-at, part-at s 4 (countIn s) k (omega arith) (omega arith), part-at s (4 + countIn s) (countIn s) k (omega arith) (omega arith), drop-drop)
+
+  pub standing-within : at + len + sum (drop (k + 1) (lengthsIn s)) ≤ length s
+  standing-within = omega (arith, length-at, sum-on s (4 + countIn s) (countIn s) k (omega arith) (omega arith))
+
+  pub standing-next : Standing s count (k + 1) (at + len)
+  standing-next =
+      record {
+        laid = h .laid;
+        counted = h .counted;
+        fills = standing-within;
+        rest = sym (drop-drop 1 k (entriesIn s)) ∙ ap (drop 1) rest-on;
+      }
+
+  pub standing-here : drop k (entriesIn s) ≡ entryAt s k at len ∷ drop (k + 1) (entriesIn s)
+  standing-here = rest-on ∙ rw (standing-next .rest)

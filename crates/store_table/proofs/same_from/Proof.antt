@@ -1,0 +1,62 @@
+-- `store_table::same_from` meets its contract: what is left of both names compares as all from the position on. Assumes nothing.
+use mathlib.Core.Path.{_≡_, refl, sym, _∙_}
+use Prim.Native.Nat.{_-_}
+use native.Mathlib.Omega.{arith}
+use borrow.Author.Tests.{eq-eqb, ne-eqb}
+use lib.ListN.{length, drop}
+use Rattle.ascii.proofs.Laws.LettersLaws.{equal-end, equal-on, equal-off}
+use Rattle.store_table.specs.Names.{sameName}
+use Rattle.store_table.proofs.same_from.Statement.{statement}
+use Rattle.store_table.proofs.same_from.Tie as tie
+
+abbrev Inv-loop : tie.InvT-loop
+Inv-loop a b at i₀ i = sameName (drop i a) (drop i b) ≡ sameName (drop at a) (drop at b)
+
+abbrev μ-loop : tie.MeasureT-loop
+μ-loop a b at i₀ i = length a - i
+
+loop-holds : tie.Need-loop-holds Inv-loop μ-loop
+loop-holds c = refl
+
+shared-slice-read-if1 : tie.Need-shared-slice-read-if1 Inv-loop μ-loop
+shared-slice-read-if1 c = omega arith
+
+shared-slice-read-if1-2 : tie.Need-shared-slice-read-if1-2 Inv-loop μ-loop
+shared-slice-read-if1-2 c = omega arith
+
+returns : tie.Need-returns Inv-loop μ-loop
+unfolding sameName
+returns c =
+    let l = c .before .before .before .before .loop in
+    sym (equal-off _ _ _ (l .i) (omega arith) (omega arith) (ne-eqb _ _ (c .if1 .taken))) ∙ l .inv
+
+add-i : tie.Need-add-i Inv-loop μ-loop
+add-i c = omega arith
+
+loop-less : tie.Need-loop-less Inv-loop μ-loop
+loop-less c = omega arith
+
+loop-again : tie.Need-loop-again Inv-loop μ-loop
+unfolding sameName
+loop-again c =
+    let l = c .before .before .before .before .loop in
+    sym (equal-on _ _ _ (l .i) (omega arith) (omega arith) (eq-eqb _ _ (c .if1 .left))) ∙ l .inv
+
+returns-2 : tie.Need-returns-2 Inv-loop μ-loop
+unfolding sameName
+returns-2 c = let l = c .before .loop in sym (equal-end _ _ _ (l .i) (omega arith) (omega arith)) ∙ l .inv
+
+pub same-from-spec : {M : Type 1} → statement M
+same-from-spec =
+    tie.close
+    (tie.spec
+    Inv-loop
+    μ-loop
+    loop-holds
+    shared-slice-read-if1
+    shared-slice-read-if1-2
+    returns
+    add-i
+    loop-less
+    loop-again
+    returns-2)

@@ -1,0 +1,4 @@
+pub mod Names
+pub mod Stores
+pub mod TableBytes
+pub mod Inner

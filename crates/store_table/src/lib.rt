@@ -1,0 +1,128 @@
+// Store tables and confirmed lists: whether bytes are one, and whether two names are the same.
+ghost use mathlib.Core.Path.{_≡_};
+ghost use Prim.Native.Nat.{_<_, _+_, _≤_};
+ghost use lib.ListN.{length, drop, take};
+ghost use Rattle.store_table.specs.Names.{sameName};
+ghost use Rattle.store_table.specs.Stores.{isReadable, sum, allAtMost, wellMade, Laid, countIn};
+use little_endian::le2;
+use little_endian::le8;
+use slices::ascii_from;
+
+// The index of a store whose name an earlier store has, or none.
+pub enum Twin {
+    No,
+    At(usize),
+}
+
+// A byte as a number.
+pub fn wide(x: u8) -> usize
+    ensures { λ r. ⌜ (r ≡ x) × (r < 256) ⌝ }
+{
+    x as usize
+}
+
+// Two names of one length are the same from a position on.
+fn same_from(a: &[u8], b: &[u8], at: usize) -> bool
+    requires { ⌜ length (now a) ≡ length (now b) ⌝ }
+    ensures { λ r. ⌜ r ≡ sameName (drop at (now (a .entry))) (drop at (now (b .entry))) ⌝ }
+{
+    let mut i = at;
+    while i < a.len() {
+        if a[i] != b[i] {
+            return false;
+        }
+        i += 1;
+    }
+    true
+}
+
+// Two names are the same: eight bytes at a time, then byte by byte.
+pub fn same_name(a: &[u8], b: &[u8]) -> bool
+    ensures { λ r. ⌜ r ≡ sameName (now (a .entry)) (now (b .entry)) ⌝ }
+{
+    if a.len() != b.len() {
+        return false;
+    }
+    let mut i = 0;
+    while i + 8 <= a.len() {
+        if le8(a, i) != le8(b, i) {
+            return false;
+        }
+        i += 8;
+    }
+    same_from(a, b, i)
+}
+
+// A mode that is read in normal running.
+pub fn is_readable(mode: u8) -> bool
+    ensures { λ r. ⌜ r ≡ isReadable mode ⌝ }
+{
+    mode <= 1
+}
+
+// The sum of n bytes from a position on.
+fn sum_from(s: &[u8], at: usize, n: usize) -> usize
+    requires { ⌜ (at + n ≤ length (now s)) × (n ≤ 64) ⌝ }
+    ensures { λ r. ⌜ r ≡ sum (take n (drop at (now (s .entry)))) ⌝ }
+{
+    let mut k = 0;
+    let mut total: usize = 0;
+    while k < n {
+        total += wide(s[at + k]);
+        k += 1;
+    }
+    total
+}
+
+// Whether n bytes from a position on are at most this one.
+fn all_at_most(s: &[u8], at: usize, n: usize, most: u8) -> bool
+    requires { ⌜ at + n ≤ length (now s) ⌝ }
+    ensures { λ r. ⌜ r ≡ allAtMost most (take n (drop at (now (s .entry)))) ⌝ }
+{
+    let mut k = 0;
+    while k < n {
+        if most < s[at + k] {
+            return false;
+        }
+        k += 1;
+    }
+    true
+}
+
+// Whether the bytes are a well-made table or list, with modes of at most `most`.
+pub fn well_made(s: &[u8], most: u8) -> bool
+    ensures { λ r. ⌜ r ≡ wellMade most (now (s .entry)) ⌝ }
+{
+    if s.len() < 4 {
+        return false;
+    }
+    let count = le2(s, 0) as usize;
+    let total = le2(s, 2) as usize;
+    if 64 < count {
+        return false;
+    }
+    if s.len() != 4 + 2 * count + total {
+        return false;
+    }
+    if sum_from(s, 4 + count, count) != total {
+        return false;
+    }
+    if !all_at_most(s, 4, count, most) {
+        return false;
+    }
+    ascii_from(s, 4 + 2 * count)
+}
+
+// How many entries there are.
+pub fn count_of(s: &[u8]) -> usize
+    requires { ⌜ Laid (now s) ⌝ }
+    ensures { λ r. ⌜ (r ≡ countIn (now (s .entry))) × (r ≤ 64) ⌝ }
+{
+    le2(s, 0) as usize
+}
+
+// The index of an entry, or none.
+pub enum Found {
+    No,
+    At(usize),
+}

@@ -1,0 +1,3 @@
+pub mod ForeignLaws
+pub mod SignLaws
+pub mod TokenLaws

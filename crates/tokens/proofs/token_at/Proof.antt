@@ -1,0 +1,153 @@
+-- `tokens::token_at` meets its contract: by the class of the first byte that is no blank. Assumes nothing.
+use mathlib.Core.Path.{_≡_, sym, _∙_}
+use Prim.Native.Nat.{ℕ}
+use native.Mathlib.Omega.{arith}
+use borrow.Author.Needs.{needs}
+use borrow.Author.Tests.{ne-eqb}
+use lib.ListN.{getD}
+use Rattle.tokens.specs.Token.{tokenOf, tokenAt}
+use Rattle.tokens.proofs.Laws.TokenLaws.{at-end, at-token}
+use Rattle.tokens.proofs.token_at.Statement.{statement}
+use Rattle.tokens.proofs.token_at.Tie as tie
+
+-- once the first byte's class has been looked up: the token is the one of that class
+here : (c : tie.After-class-at) {k : ℕ} → c .class-at .result ≡ k →
+    let start = c .before .before .before .before .before .args in
+    let p = c .before .before .before .class-end .result in
+    tokenAt (start .text .now) (start .at) ≡ tokenOf (start .text .now) p (getD (start .text .now) p 0) k
+here c q = at-token _ _ (c .before .before .before .class-end .ensures) (omega arith) (sym (c .class-at .ensures) ∙ q)
+
+class-end-requires : tie.Need-class-end-requires
+class-end-requires c κs = search needs
+
+returns : tie.Need-returns
+returns c = sym (at-end _ _ (c .before .class-end .ensures) (omega arith))
+
+shared-slice-read-b : tie.Need-shared-slice-read-b
+shared-slice-read-b c = search needs
+
+class-at-requires : tie.Need-class-at-requires
+class-at-requires c κs = search needs
+
+add-t13 : tie.Need-add-t13
+add-t13 c = search needs
+
+add-t14 : tie.Need-add-t14
+add-t14 c = search needs
+
+add-t15 : tie.Need-add-t15
+add-t15 c = search needs
+
+doubled-at-requires : tie.Need-doubled-at-requires
+doubled-at-requires c κs = search needs
+
+add-t17 : tie.Need-add-t17
+add-t17 c = search needs
+
+returns-2 : tie.Need-returns-2
+unfolding tokenOf
+returns-2 c =
+    let m = c .before .before in
+    sym (here (m .before) (m .match .keys4) ∙ simp (sym (c .before .doubled-at .ensures) ∙ c .if2 .taken))
+
+half-sign-requires : tie.Need-half-sign-requires
+half-sign-requires c κs = search needs
+
+doubled-at-requires-2 : tie.Need-doubled-at-requires-2
+doubled-at-requires-2 c κs = search needs
+
+add-t19 : tie.Need-add-t19
+add-t19 c = search needs
+
+returns-3 : tie.Need-returns-3
+unfolding tokenOf
+returns-3 c =
+    let m = c .before .before in
+    sym (here (m .before) (m .match .keys5) ∙ simp (sym (c .before .doubled-at2 .ensures) ∙ c .if3 .taken))
+
+half-sign-requires-2 : tie.Need-half-sign-requires-2
+half-sign-requires-2 c κs = search needs
+
+quoted-at-requires : tie.Need-quoted-at-requires
+quoted-at-requires c κs = search needs
+
+bare-at-requires : tie.Need-bare-at-requires
+bare-at-requires c κs = search needs
+
+returns-4 : tie.Need-returns-4
+unfolding tokenOf
+returns-4 c = sym (here (c .before) (c .match .keys1))
+
+returns-5 : tie.Need-returns-5
+unfolding tokenOf
+returns-5 c = sym (here (c .before) (c .match .keys2))
+
+returns-6 : tie.Need-returns-6
+unfolding tokenOf
+returns-6 c = sym (here (c .before) (c .match .keys3))
+
+returns-7 : tie.Need-returns-7
+unfolding tokenOf
+returns-7 c =
+    let m = c .before .before .before in
+    c .half-sign .ensures ∙ sym (here (m .before) (m .match .keys4) ∙ simp (sym (c .before .before .doubled-at .ensures) ∙ c .before .if2 .left))
+
+returns-8 : tie.Need-returns-8
+unfolding tokenOf
+returns-8 c =
+    let m = c .before .before .before in
+    c .half-sign2 .ensures ∙ sym (here (m .before) (m .match .keys5) ∙ simp (sym (c .before .before .doubled-at2 .ensures) ∙ c .before .if3 .left))
+
+returns-9 : tie.Need-returns-9
+unfolding tokenOf
+returns-9 c = c .quoted-at .ensures ∙ sym (here (c .before .before) (c .before .match .keys6))
+
+returns-10 : tie.Need-returns-10
+unfolding tokenOf
+returns-10 c = c .bare-at .ensures ∙ sym (here (c .before .before) (c .before .match .keys7))
+
+returns-11 : tie.Need-returns-11
+unfolding tokenOf
+returns-11 c =
+    let r = c .match .rest in
+    sym
+    (at-token _ _ (c .before .before .before .before .class-end .ensures) (omega arith) (sym (c .before .class-at .ensures)) ∙
+    simp (
+      ne-eqb _ _ (r .0 .0 .0 .0 .0 .0 .1),
+      ne-eqb _ _ (r .0 .0 .0 .0 .0 .1),
+      ne-eqb _ _ (r .0 .0 .0 .0 .1),
+      ne-eqb _ _ (r .0 .0 .0 .1),
+      ne-eqb _ _ (r .0 .0 .1),
+      ne-eqb _ _ (r .0 .1),
+      ne-eqb _ _ (r .1),
+    ))
+
+pub token-at-spec : {M : Type 1} → statement M
+token-at-spec =
+    tie.close
+    (tie.spec
+    class-end-requires
+    returns
+    shared-slice-read-b
+    class-at-requires
+    add-t13
+    add-t14
+    add-t15
+    doubled-at-requires
+    add-t17
+    returns-2
+    half-sign-requires
+    doubled-at-requires-2
+    add-t19
+    returns-3
+    half-sign-requires-2
+    quoted-at-requires
+    bare-at-requires
+    returns-4
+    returns-5
+    returns-6
+    returns-7
+    returns-8
+    returns-9
+    returns-10
+    returns-11)

@@ -1,0 +1,32 @@
+-- What the functions that read tokens promise each other: what stands behind a sign, and where the numbers of a token lie. Assumes nothing.
+use Prim.Native.Nat.{ℕ, _+_, _≤_, _<_}
+use mathlib.Core.Path.{_≡_}
+use mathlib.Core.Bool.{cond}
+use lib.Dec.{eqb}
+use Rattle.classes.specs.Class.{openBracket, closeBracket, comma, ampersand, bar}
+use Rattle.tokens.specs.declared.Token.{Token}
+use Rattle.tokens.specs.declared.Token.the-variants.{End, Open, Close, Comma, And, Or, Word, Fault}
+use Rattle.tokens.specs.declared.Next.{Next}
+use Rattle.tokens.specs.declared.Next.the-variants.{Off, To}
+
+-- where the text goes on after a token, if it begins with a byte of this class and is no word: a bracket, a comma or a sign
+unfoldable pub behind : ℕ → Token → Next
+behind k (End p) = Off
+behind k (Open p n) = cond (eqb k openBracket) (To n) Off
+behind k (Close p n) = cond (eqb k closeBracket) (To n) Off
+behind k (Comma p n) = cond (eqb k comma) (To n) Off
+behind k (And p n) = cond (eqb k ampersand) (To n) Off
+behind k (Or p n) = cond (eqb k bar) (To n) Off
+behind k (Word p a b q n) = Off
+behind k (Fault f) = Off
+
+-- what the numbers of a token at or after `at`, in a text of `len` bytes, keep to; a fault is one of 4 to 6
+abbrev pub Lexed : ℕ → ℕ → Token → Type 0
+Lexed len at (End p) = p ≡ len
+Lexed len at (Open p n) = (at ≤ p) × (n ≡ p + 1) × (n ≤ len)
+Lexed len at (Close p n) = (at ≤ p) × (n ≡ p + 1) × (n ≤ len)
+Lexed len at (Comma p n) = (at ≤ p) × (n ≡ p + 1) × (n ≤ len)
+Lexed len at (And p n) = (at ≤ p) × (p < n) × (n ≤ len)
+Lexed len at (Or p n) = (at ≤ p) × (p < n) × (n ≤ len)
+Lexed len at (Word p a b q n) = (at ≤ p) × (p ≤ a) × (a ≤ b) × (b ≤ n) × (p < n) × (n ≤ len)
+Lexed len at (Fault f) = (at ≤ f .place) × (f .place < len) × (4 ≤ f .number) × (f .number ≤ 6)

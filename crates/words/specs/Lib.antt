@@ -1,5 +1,0 @@
-pub mod Token
-pub mod Bounds
-pub mod TokenLaws
-pub mod SignLaws
-pub mod ForeignLaws
