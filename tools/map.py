@@ -16,12 +16,18 @@ counts for a sentence only if all its pieces stand there, in their order. A sent
 digits is in such a piece, of one row or of several; a piece of fewer than 8 characters counts only if it is the whole sentence.
 Prints each sentence that has none with its line, then of each document `N sentences, M without a row`.
 
-The exit status is 1 if a name is missing or a sentence has no row. Where no document can be read, the names alone decide.
+Then it prints what tools/reach.py prints: the files that a reader must believe, which must be those of the reading order. The
+table of edits must be what tools/edits.py writes.
+
+The exit status is 1 if a name is missing, a sentence has no row, or a file or the table of edits is wrong. Where no document can be read, the names alone decide.
 """
 import os
 import pathlib
 import re
 import sys
+
+import edits
+import reach
 
 ROOT = pathlib.Path(__file__).resolve().parent.parent
 CRATES = ROOT / 'crates'
@@ -40,7 +46,7 @@ JOB = re.compile(r'\*\*Job (\d+)\.[^*]*\*\*\s*(.*)')
 def declared():
     """The names that the sources declare."""
     names = set()
-    for path in [*CRATES.glob('*/specs/*.antt'), *CRATES.glob('*/proofs/**/*.antt')]:
+    for path in [*CRATES.glob('*/specs/**/*.antt'), *CRATES.glob('*/proofs/**/*.antt')]:
         names.update(ANTT.findall(path.read_text()))
     for path in [*CRATES.glob('*/src/*.rt'), *ROOT.glob('compare/src/*.rs')]:
         names.update(CODE.findall(path.read_text()))
@@ -181,9 +187,13 @@ def document(number, name):
 
 def main():
     page = (ROOT / 'docs' / 'MAP.md').read_text().splitlines()
-    missing = missing_names(page)
+    missing = missing_names(edits.split('\n'.join(page))[0].splitlines())
     missing += missing_rows(page, document(1, '01-scope.md'), lambda text: text)
     missing += missing_rows(page, document(2, '02-change-requests.md'), landed)
+    missing += reach.wrong()
+    if not edits.is_current():
+        print('docs/MAP.md: its table of edits is not what tools/edits.py writes')
+        missing += 1
     sys.exit(1 if missing else 0)
 
 
