@@ -11,30 +11,53 @@ use Rattle.verdict.specs.declared.Verdict.the-variants.{Pass, Refused as NotPas
 use Rattle.print.specs.declared.Printing.{Printing}
 use Rattle.print.specs.declared.Printing.the-variants.{Printed, Refused as Unprinted}
 
--- lengths and places are far below 2^32
+-- a number and a value
+pub record Answer : Type 0 where
+  pub number : ℕ
+  pub value : ℕ
+
+abbrev pub accepted : ℕ → Answer
+accepted value = record { number = 0; value = value }
+
+abbrev pub refusedBy : Refusal → Answer
+refusedBy f = record { number = f .number; value = f .place }
+
+-- "the length written"
+abbrev pub readAnswer : Reading → Answer
+readAnswer (Read size) = accepted size
+readAnswer (Unread f) = refusedBy f
+
+-- "1 evict, 0 keep"
+abbrev pub decideAnswer : Decision → Answer
+decideAnswer Evict = accepted 1
+decideAnswer Keep = accepted 0
+decideAnswer (Undecided f) = refusedBy f
+
+-- "0 for pass"
+abbrev pub verdictAnswer : Verdict → Answer
+verdictAnswer Pass = accepted 0
+verdictAnswer (NotPassed f) = refusedBy f
+
+-- "the length written"
+abbrev pub printAnswer : Printing → Answer
+printAnswer (Printed size) = accepted size
+printAnswer (Unprinted f) = refusedBy f
+
+-- both as one number; the values of the calls are below 2^32 and read back (AnswersLaws)
 abbrev pub packed : ℕ → ℕ → ℕ
 packed number value = number * 2 ^ 32 + value % 2 ^ 32
 
-abbrev pub ofRefusal : Refusal → ℕ
-ofRefusal f = packed (f .number) (f .place)
+abbrev pub packedAnswer : Answer → ℕ
+packedAnswer a = packed (a .number) (a .value)
 
--- "the length written"
 abbrev pub ofReading : Reading → ℕ
-ofReading (Read size) = packed 0 size
-ofReading (Unread f) = ofRefusal f
+ofReading r = packedAnswer (readAnswer r)
 
--- "1 evict, 0 keep"
 abbrev pub ofDecision : Decision → ℕ
-ofDecision Evict = 1
-ofDecision Keep = 0
-ofDecision (Undecided f) = ofRefusal f
+ofDecision d = packedAnswer (decideAnswer d)
 
--- "0 for pass"
 abbrev pub ofVerdict : Verdict → ℕ
-ofVerdict Pass = 0
-ofVerdict (NotPassed f) = ofRefusal f
+ofVerdict v = packedAnswer (verdictAnswer v)
 
--- "the length written"
 abbrev pub ofPrinting : Printing → ℕ
-ofPrinting (Printed size) = packed 0 size
-ofPrinting (Unprinted f) = ofRefusal f
+ofPrinting p = packedAnswer (printAnswer p)

@@ -1,3 +1,4 @@
+pub mod PlaceLaws
 pub mod AnswerLaws
 pub mod DecideLaws
 pub mod ReadDecideLaws

@@ -1,13 +1,14 @@
 -- "Decide takes image, stores, age, list, tests 16 to 19, and answers evict or keep." Assumes nothing.
 use Prim.Native.Nat.{ℕ}
-use mathlib.Core.Bool.{Bool, true, false, cond}
-use mathlib.Core.List.{List}
+use mathlib.Core.Bool.{Bool, true, false}
+use mathlib.Core.List.{List, [], _∷_}
 use mathlib.Core.Option.{Option, none, some}
-use Rattle.refusals.specs.Refusals.{refusal, badImage, badStoreTable, twinName, badConfirmedList}
+use Rattle.refusals.specs.Refusals.{refusal, badImage}
 use Rattle.rules.specs.Rule.{Rule}
 use Rattle.image.specs.Decode.{decode}
-use Rattle.store_table.specs.Stores.{isTable, isList, entriesIn, namesOf, twinOf, unlessTwin}
+use Rattle.store_table.specs.Stores.{entriesIn, namesOf}
 use Rattle.evaluate.specs.Evict.{worldOf, evict}
+use Rattle.decide.specs.Tests.{unlessDue, tableTest, twinTest, listTest}
 use Rattle.decide.specs.declared.Decision.{Decision}
 use Rattle.decide.specs.declared.Decision.the-variants.{Evict, Keep, Refused}
 
@@ -23,10 +24,8 @@ listNames l = namesOf 0 0 (entriesIn l)
 abbrev pub decideRule : Option Rule → List ℕ → ℕ → List ℕ → Decision
 decideRule none stores age list = Refused (refusal badImage 0)
 decideRule (some r) stores age list =
-    cond (isTable stores)
-    (unlessTwin (λ i. Refused (refusal twinName i)) (twinOf (entriesIn stores))
-    (cond (isList list) (saying (evict r (worldOf (entriesIn stores) age (listNames list)))) (Refused (refusal badConfirmedList 0))))
-    (Refused (refusal badStoreTable 0))
+    unlessDue Refused (tableTest stores ∷ twinTest stores ∷ listTest list ∷ [])
+    (saying (evict r (worldOf (entriesIn stores) age (listNames list))))
 
 unfoldable pub decideOf : List ℕ → List ℕ → ℕ → List ℕ → Decision
 decideOf image stores age list = decideRule (decode image) stores age list

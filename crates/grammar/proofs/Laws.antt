@@ -1,3 +1,4 @@
+pub mod PlaceLaws
 pub mod AsciiLaws
 pub mod BehindLaws
 pub mod CleanLaws

@@ -1,3 +1,4 @@
+pub mod ImageLaws
 pub mod BuildLaws
 pub mod DecodeLaws
 pub mod EncodeLaws

@@ -1,11 +1,7 @@
 -- "Numbers little-endian". Assumes nothing.
-use Prim.Native.Nat.{ℕ, zero, suc, _+_, _*_, _/_, _%_, _<_}
+use Prim.Native.Nat.{ℕ, zero, suc, _+_, _*_, _/_, _%_}
 use mathlib.Core.List.{List, [], _∷_, _++_}
-use lib.ListN.{getD, take, drop}
-
--- a list of bytes
-abbrev pub AllBytes : List ℕ → Type 0
-AllBytes s = (i : ℕ) → getD s i 0 < 256
+use lib.ListN.{take, drop}
 
 -- a number in k bytes, the lowest first
 unfoldable pub leBytes : ℕ → ℕ → List ℕ

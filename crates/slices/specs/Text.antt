@@ -1,18 +1,22 @@
 -- A text is the list of its bytes: what a literal stands for, a part of a text, and how far a run of like bytes goes.
 -- Assumes nothing.
-use Prim.Native.Nat.{ℕ, suc, _+_, _-_}
+use Prim.Native.Nat.{ℕ, suc, _+_, _-_, _<_}
 use Prim.Native.Char.{code}
 use Prim.Native.String.{String}
 use Prim.Native.String as String
 use mathlib.Core.Bool.{Bool, true, not, cond, _&&_}
 use mathlib.Core.List.{List, [], _∷_}
 use lib.Dec.{ltb, eqb}
-use lib.ListN.{take, drop}
+use lib.ListN.{getD, take, drop}
 
 -- the bytes of a literal, which is ASCII
 abbrev pub bytes : String → List ℕ
 bytes String.[] = []
 bytes (String._∷_ c s) = code c ∷ bytes s
+
+-- a list of bytes
+abbrev pub AllBytes : List ℕ → Type 0
+AllBytes s = (i : ℕ) → getD s i 0 < 256
 
 -- the part of a text from one position up to another
 unfoldable pub part : List ℕ → ℕ → ℕ → List ℕ

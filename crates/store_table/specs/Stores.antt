@@ -1,9 +1,11 @@
 -- Store tables and confirmed lists, as document 01's 'Stores and confirmed lists' lays them down. Assumes nothing.
-use Prim.Native.Nat.{ℕ, suc, _+_, _*_, _≤_}
+use Prim.Native.Nat.{ℕ, suc, _+_, _*_, _≤_, _<_}
+use mathlib.Core.Path.{_≡_}
 use mathlib.Core.Bool.{Bool, true, cond, _&&_}
 use mathlib.Core.List.{List, [], _∷_}
+use mathlib.Core.Option.{some}
 use lib.Dec.{eqb, leb}
-use lib.ListN.{length, take, drop}
+use lib.ListN.{length, take, drop, getElem?}
 use Rattle.ascii.specs.Letters.{within}
 use Rattle.little_endian.specs.Bytes.{leAt}
 use Rattle.slices.specs.Text.{allAscii}
@@ -93,10 +95,9 @@ unfoldable pub twinOf : List Entry → Twin
 unfolding twinFrom
 twinOf es = twinFrom [] 0 es
 
--- 18 for a twin, else `rest`
-abbrev pub unlessTwin {ℓ} : {A : Type ℓ} → (ℕ → A) → Twin → A → A
-unlessTwin refuse No rest = rest
-unlessTwin refuse (At i) rest = refuse i
+-- "no name twice": no two entries, at indices i and j, have one name
+abbrev pub Distinct : List Entry → Type 0
+Distinct es = (i j : ℕ) (d e : Entry) → i < j → getElem? es i ≡ some d → getElem? es j ≡ some e → d .name ≡ e .name → ⊥
 
 -- a table or a list whose names lie within it
 pub record Laid (s : List ℕ) : Type 0 where

@@ -1,3 +1,4 @@
+pub mod PlaceLaws
 pub mod CheckLaws
 pub mod GradesLaws
 pub mod GuaranteeLaws

@@ -5,13 +5,14 @@ use mathlib.Core.List.{List, [], _∷_}
 use mathlib.Core.Option.{Option, none, some}
 use lib.Dec.{leb}
 use lib.ListN.{length}
-use Rattle.refusals.specs.Refusals.{refusal, badImage, badStoreTable, twinName, unknownStore, unconfirmed, archiveOnly}
+use Rattle.refusals.specs.Refusals.{refusal, badImage, unknownStore, unconfirmed, archiveOnly}
 use Rattle.rules.specs.Rule.{Leaf, named, olderThan, readable, Rule, leaf, node, Rules, nil, more, size, sizes}
 use Rattle.image.specs.Decode.{decode}
 use Rattle.grammar.specs.Reading.{Read, rule, refused, readOf}
 use Rattle.store_table.specs.Names.{has}
-use Rattle.store_table.specs.Stores.{Entry, isTable, entriesIn, namesOf, twinOf, unlessTwin}
+use Rattle.store_table.specs.Stores.{Entry, entriesIn, namesOf}
 use Rattle.evaluate.specs.Evict.{worldOf, evict}
+use Rattle.decide.specs.Tests.{unlessDue, tableTest, twinTest}
 use Rattle.verdict.specs.declared.Unknown.{Unknown}
 use Rattle.verdict.specs.declared.Unknown.the-variants.{No, At}
 use Rattle.verdict.specs.declared.Verdict.{Verdict}
@@ -75,10 +76,7 @@ checkStores r (e ∷ es) = let stores = e ∷ es in verdict (unknownIn stores r 
 
 -- 17, then 18
 unfoldable pub checkRule : Rule → List ℕ → Verdict
-checkRule r s =
-    cond (isTable s)
-    (unlessTwin (λ i. Refused (refusal twinName i)) (twinOf (entriesIn s)) (checkStores r (entriesIn s)))
-    (Refused (refusal badStoreTable 0))
+checkRule r s = unlessDue Refused (tableTest s ∷ twinTest s ∷ []) (checkStores r (entriesIn s))
 
 -- "Check tests 16 to 18"
 abbrev pub checkDecoded : Option Rule → List ℕ → Verdict

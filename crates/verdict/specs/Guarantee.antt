@@ -10,14 +10,13 @@ use lib.ListN.{length, take}
 use Rattle.refusals.specs.declared.Refusal.{Refusal}
 use Rattle.refusals.specs.Refusals.{refusal, badImage, unknownStore, unconfirmed, archiveOnly}
 use Rattle.rules.specs.Rule.{Rule, namesIn}
-use Rattle.little_endian.specs.Bytes.{AllBytes}
+use Rattle.slices.specs.Text.{AllBytes}
 use Rattle.image.specs.Decode.{decode}
 use Rattle.grammar.specs.Reading.{rule, refused, readOf}
 use Rattle.read.specs.Outcome.{readInto}
 use Rattle.read.specs.declared.Reading.{Reading}
 use Rattle.read.specs.declared.Reading.the-variants.{Read as Written, Refused as Unread}
-use Rattle.store_table.specs.Stores.{Entry, isTable, isList, countIn, entriesIn, isReadable, twinOf}
-use Rattle.store_table.specs.declared.Twin.the-variants.{No}
+use Rattle.store_table.specs.Stores.{Entry, isTable, isList, countIn, entriesIn, isReadable, Distinct}
 use Rattle.evaluate.specs.Evict.{worldOf, evict}
 use Rattle.decide.specs.Decide.{saying, listNames, decideOf}
 use Rattle.verdict.specs.Check.{oldest, checkOf}
@@ -31,7 +30,7 @@ pub record Table (s : List ℕ) : Type 0 where
   pub bytes : AllBytes s
   pub made : isTable s ≡ true
   pub stored : 1 ≤ countIn s
-  pub lone : twinOf (entriesIn s) ≡ No
+  pub distinct : Distinct (entriesIn s)
 
 -- a well-made confirmed list
 pub record Confirmed (l : List ℕ) : Type 0 where
@@ -115,7 +114,7 @@ pub record Judged (text s : List ℕ) (v : Verdict) : Type 0 where
   -- 5: "A text that doesn't read as a rule gets its number among 2 to 15"
   pub unread : (f : Refusal) → readOf text ≡ refused f → (v ≡ Refused f) × (2 ≤ f .number) × (f .number ≤ 15)
   -- 6: "decide, given the image read from the text, answers the same"
-  pub decides : (r : Rule) → readOf text ≡ rule r → isTable s ≡ true → twinOf (entriesIn s) ≡ No → (buffer : List ℕ) → 26_628 ≤ length buffer →
+  pub decides : (r : Rule) → readOf text ≡ rule r → isTable s ≡ true → Distinct (entriesIn s) → (buffer : List ℕ) → 26_628 ≤ length buffer →
       (age : ℕ) (l : List ℕ) → isList l ≡ true →
       (let o = readInto text buffer in decideOf (bytesWritten (o .answer) (o .image)) s age l ≡ saying (evict r (worldOf (entriesIn s) age (listNames l))))
   -- 7: "reading and checking" is judge

@@ -15,7 +15,7 @@ answer-requires : tie.Need-answer-requires
 answer-requires c κs = search needs
 
 returns : tie.Need-returns
-returns c = search needs
+returns c = sym (ap ofVerdict (c .enum-told .given .1))
 
 returns-2 : tie.Need-returns-2
 returns-2 c = c .answer .ensures ∙ sym (ap ofVerdict (c .before .before .verdict .given .1))

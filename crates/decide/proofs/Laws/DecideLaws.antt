@@ -1,5 +1,5 @@
 -- What deciding answers in each case. Assumes nothing.
-use mathlib.Core.Path.{_≡_}
+use mathlib.Core.Path.{_≡_, refl}
 use mathlib.Core.Bool.{true, false}
 use mathlib.Core.List.{List}
 use mathlib.Core.Option.{none, some}
@@ -8,7 +8,7 @@ use Rattle.refusals.specs.Refusals.{refusal, badImage, badStoreTable, twinName,
 use Rattle.rules.specs.Rule.{Rule}
 use Rattle.image.specs.Encode.{encode, Fits}
 use Rattle.image.specs.Decode.{decode}
-use Rattle.image.proofs.Laws.RoundTripLaws.{decode-encode}
+use Rattle.image.proofs.Laws.ImageLaws.{encode-bytes, decode-encode}
 use Rattle.store_table.specs.Stores.{isTable, isList, entriesIn, twinOf}
 use Rattle.store_table.specs.declared.Twin.the-variants.{No, At}
 use Rattle.evaluate.specs.Evict.{worldOf, evict}
@@ -49,4 +49,4 @@ module _ (i s : List ℕ) (a : ℕ) (l : List ℕ) where
 
 -- a rule's own image
 pub decide-image : (r : Rule) → Fits r → (s : List ℕ) (a : ℕ) (l : List ℕ) → decideOf (encode r) s a l ≡ decideRule (some r) s a l
-decide-image r fits s a l = decide-rule (encode r) s a l (decode-encode r fits)
+decide-image r fits s a l = decide-rule (encode r) s a l (decode-encode (encode r) (encode-bytes r fits) r .1 (fits, refl))

@@ -22,7 +22,7 @@ use Rattle.rules.specs.Rule.{Rule}
 use Rattle.image.specs.Encode.{encode, Fits}
 use Rattle.image.proofs.Laws.EncodeLaws.{length-encode}
 use Rattle.image.specs.Decode.{decode}
-use Rattle.image.proofs.Laws.RoundTripLaws.{decode-encode}
+use Rattle.image.proofs.Laws.ImageLaws.{encode-bytes, decode-encode}
 use Rattle.grammar.specs.Grammar.{firstPlace, Got, got, bad, orIn}
 use Rattle.grammar.specs.Reading.{Read, rule, refused, atEnd, ended, parseOf, scannedOf, readOf}
 use Rattle.grammar.proofs.Laws.AsciiLaws.{text-ascii}
@@ -92,7 +92,7 @@ module _ (s : List ℕ) (r : Rule) (e : readOf s ≡ rule r) where
   read-fits = rw e at (fits s)
 
   pub read-decodes : decode (encode r) ≡ some r
-  read-decodes = decode-encode r read-fits
+  read-decodes = decode-encode (encode r) (encode-bytes r read-fits) r .1 (read-fits, refl)
 
   pub read-length : length (encode r) ≤ 26628
   read-length = let f = read-fits in omega (arith, length-encode r)

@@ -1,8 +1,8 @@
 -- Bytes that are read as a rule are that rule's image, and the rule fits. Assumes nothing.
-use mathlib.Core.Path.{_≡_, refl, sym, ap}
+use mathlib.Core.Path.{_≡_, refl, sym}
 use mathlib.Core.Bool.{true}
 use mathlib.Core.List.{List, [], _∷_, _++_, append-nil}
-use mathlib.Core.Option.{Option, none, some, Option·none-ne-some}
+use mathlib.Core.Option.{some, Option·none-ne-some}
 use Prim.Native.Nat.{ℕ, zero, suc, _+_, _-_, _*_, _/_, _%_, _^_, _≤_, _<_}
 use native.Mathlib.Nat.{add-zero}
 use native.Mathlib.Omega.{arith}
@@ -11,25 +11,15 @@ use lib.ListN.{length, drop, length-append, length-drop}
 use lib.Seq.{length-take-le}
 use borrow.Author.Tests.{eqb-true}
 use Rattle.rules.specs.Rule.{Leaf, Join, Rule, leaf, node, Rules, nil, more, size, sizes}
-use Rattle.little_endian.specs.Bytes.{packed, leAt, AllBytes}
-use Rattle.slices.specs.Text.{allAscii}
+use Rattle.little_endian.specs.Bytes.{packed, leAt}
+use Rattle.slices.specs.Text.{allAscii, AllBytes}
 use Rattle.image.specs.Encode.{leafKind, joinKind, tag, leafArg, joinArg, leafName, names, namesAll, tags, tagsAll, args, argsAll, encode, Small, SmallAll, Fits}
 use Rattle.image.specs.Decode.{nodeAt, Meaning, aLeaf, aJoin, nothing, meaning, cellAt, place, build, only, nextName, nameEnd, endsAt, sized, decodeParts, decode}
 use Rattle.little_endian.proofs.Laws.BytesLaws.{Has, has-rest, at-number, number-below}
 use Rattle.image.proofs.Laws.EncodeLaws.{size-pos, length-tags, length-tagsAll, length-args, length-argsAll, length-encode, Laid, laid-append, laid-image}
 use Rattle.image.proofs.Laws.BuildLaws.{when-some, bind-some, chain, closed, sizes-close, names-close, tags-close, args-close, small-close}
-use Rattle.image.proofs.Laws.TestLaws.{sized-true}
-
--- names do not run backwards, and a name ends where the next one may begin
-pub next-le : (k a t u : ℕ) → nextName k a t ≡ some u → (t ≤ u) × (k ≡ 0 → a / 65536 + a % 65536 ≤ u)
-next-le zero a t u e =
-    let (b, q) = when-some (eqb (a / 65536) t) (some (t + a % 65536)) e in
-    let r : t + a % 65536 ≡ u = cc in
-    let s = eqb-true (a / 65536) t b in
-    (omega arith, λ h. omega arith)
-next-le (suc k) a t u e =
-    let r : t ≡ u = cc in
-    (omega arith, λ h. absurd (omega arith))
+use Rattle.image.proofs.Laws.NameRunLaws.{next-le}
+use Rattle.image.proofs.Laws.TestLaws.{sized-true, ends-some, only-some}
 
 module _ (s : List ℕ) (n m : ℕ) (bytes : AllBytes s) (long : length s ≡ 4 + 12 * n + m) where
   -- a node that is read is laid
@@ -145,16 +135,6 @@ module _ (s : List ℕ) (n m : ℕ) (bytes : AllBytes s) (long : length s ≡ 4 
       let l = next-le (nodeAt s n i .kind) (nodeAt s n i .arg) t u f₂ .0 in
       place-taken i t u rs out (cellAt s n i .what) le (says (nodeAt s n i .kind) (nodeAt s n i .arg) t u short f₂) e₂ (taken i t rs (omega arith) (omega arith) e₁ f₁)
 
--- the tests of a whole image
-pub only-some : (rs : Rules) (r : Rule) → only rs ≡ some r → rs ≡ more nil r
-only-some nil r e = absurd (Option·none-ne-some _ e)
-only-some (more nil q) r e = cc
-only-some (more (more rs p) q) r e = absurd (Option·none-ne-some _ e)
-
-pub ends-some : (o : Option ℕ) (m : ℕ) → endsAt o m ≡ true → o ≡ some m
-ends-some none m e = let z : _≡_ {A = ℕ} 0 1 = cc in absurd (omega arith)
-ends-some (some t) m e = ap some (eqb-true t m e)
-
 -- what was read: its sizes, and its nodes and names at their places
 record Parts (s : List ℕ) (n m : ℕ) (r : Rule) : Type 0 where
   nodes : n ≡ size r
@@ -186,14 +166,14 @@ whole : (s : List ℕ) (r : Rule) → AllBytes s → decode s ≡ some r → Par
 unfolding decode
 whole s r bytes e = parts s (leAt s 0 2) (leAt s 2 2) r bytes e
 
-pub encode-decode : (s : List ℕ) (r : Rule) → AllBytes s → decode s ≡ some r → s ≡ encode r
+pub decoded-image : (s : List ℕ) (r : Rule) → AllBytes s → decode s ≡ some r → s ≡ encode r
 unfolding encode
-encode-decode s r bytes e =
+decoded-image s r bytes e =
     let w = whole s r bytes e in
     let a = rw (w .nodes) at (at-number s 0 2 bytes (omega arith)) in
     let b = rw (w .ends) at (at-number s 2 2 bytes (omega arith)) in
     let h = laid-image s (size r) (tags r) (args r 0) (names r) (length-tags r) (length-args r 0) a b (rw (w .nodes) at (w .laid)) in
     has-rest s (encode r) 0 (omega (arith, length-encode r)) h
 
-pub decode-fits : (s : List ℕ) (r : Rule) → AllBytes s → decode s ≡ some r → Fits r
-decode-fits s r bytes e = whole s r bytes e .fits
+pub decoded-fits : (s : List ℕ) (r : Rule) → AllBytes s → decode s ≡ some r → Fits r
+decoded-fits s r bytes e = whole s r bytes e .fits

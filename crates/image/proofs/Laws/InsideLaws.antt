@@ -15,9 +15,9 @@ use Rattle.image.specs.Decode.{isSome, Node, nodeAt, cellAt, build, only
 use Rattle.image.specs.Decode.{sized as lengths}
 use Rattle.image.proofs.Laws.BuildLaws.{when-some, bind-some}
 use Rattle.image.proofs.Laws.FitLaws.{isSome-true}
-use Rattle.image.proofs.Laws.TestLaws.{sized-true}
+use Rattle.image.proofs.Laws.TestLaws.{sized-true, ends-some, only-some}
 use Rattle.image.proofs.Laws.StandingLaws.{built}
-use Rattle.image.proofs.Laws.DecodeLaws.{next-le, ends-some, only-some}
+use Rattle.image.proofs.Laws.NameRunLaws.{next-le}
 use Rattle.image.specs.Inner.Standing.{Stands}
 use Rattle.image.specs.Inner.Subtree.{NamesInside, Inside}
 

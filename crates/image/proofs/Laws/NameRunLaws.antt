@@ -1,11 +1,25 @@
--- Where the names of the first nodes end, with one node more. Assumes nothing.
+-- Names that run on from one node to the next: where those of the first nodes end, with one node more. Assumes nothing.
 use mathlib.Core.Path.{_≡_, refl, _∙_}
 use mathlib.Core.Bool.{false}
 use mathlib.Core.Option.{none, some}
-use Prim.Native.Nat.{ℕ, zero, suc, _+_, _/_, _%_, _<_}
-use borrow.Author.Tests.{eq-eqb, ne-eqb}
+use Prim.Native.Nat.{ℕ, zero, suc, _+_, _/_, _%_, _≤_, _<_}
+use native.Mathlib.Omega.{arith}
+use lib.Dec.{eqb}
+use borrow.Author.Tests.{eqb-true, eq-eqb, ne-eqb}
 use Rattle.image.specs.Decode.{Node, nextName, nameEnd, endsAt}
+use Rattle.image.proofs.Laws.BuildLaws.{when-some}
 use Rattle.image.proofs.Laws.FitLaws.{stays-none}
+
+-- names do not run backwards, and a name ends where the next one may begin
+pub next-le : (k a t u : ℕ) → nextName k a t ≡ some u → (t ≤ u) × (k ≡ 0 → a / 65536 + a % 65536 ≤ u)
+next-le zero a t u e =
+    let (b, q) = when-some (eqb (a / 65536) t) (some (t + a % 65536)) e in
+    let r : t + a % 65536 ≡ u = cc in
+    let s = eqb-true (a / 65536) t b in
+    (omega arith, λ h. omega arith)
+next-le (suc k) a t u e =
+    let r : t ≡ u = cc in
+    (omega arith, λ h. absurd (omega arith))
 
 next-other : (k a t : ℕ) → (k ≡ 0 → ⊥) → nextName k a t ≡ some t
 next-other zero a t h = absurd (h refl)

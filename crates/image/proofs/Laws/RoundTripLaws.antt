@@ -140,9 +140,9 @@ module _ (r : Rule) (fits : Fits r) where
   unfolding decodeParts
   parts = rw (is-sized, names-at, fits .ascii, made .named, eq-eqb (length (names r)) (length (names r)) refl, made .built)
 
-pub decode-encode : (r : Rule) → Fits r → decode (encode r) ≡ some r
+pub image-decodes : (r : Rule) → Fits r → decode (encode r) ≡ some r
 unfolding decode
-decode-encode r fits =
+image-decodes r fits =
     let (a, b, laid) = encode-laid r in
     let p = number-at (encode r) 0 2 (size r) (omega arith) a in
     let q = number-at (encode r) 2 2 (length (names r)) (omega arith) b in

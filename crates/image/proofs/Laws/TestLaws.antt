@@ -1,12 +1,14 @@
 -- The tests of a whole image: its lengths, and that this test and those of its name bytes, names and nodes are all. Assumes nothing.
-use mathlib.Core.Path.{_≡_, refl, ap₂, _∙_}
+use mathlib.Core.Path.{_≡_, refl, ap, ap₂, _∙_}
 use mathlib.Core.Bool.{Bool, true, false, _&&_}
 use mathlib.Core.List.{List}
+use mathlib.Core.Option.{Option, none, some, Option·none-ne-some}
 use Prim.Native.Nat.{ℕ, _+_, _*_, _≤_, _<_}
 use native.Mathlib.Omega.{arith}
 use lib.Dec.{leb}
 use lib.ListN.{length, drop}
 use borrow.Author.Tests.{leb-true, le-leb, eqb-true, eq-eqb}
+use Rattle.rules.specs.Rule.{Rule, Rules, nil, more}
 use Rattle.little_endian.specs.Bytes.{leAt}
 use Rattle.slices.specs.Text.{allAscii}
 use Rattle.image.specs.Decode.{bind, isSome, nodeAt, cellAt, build, only, nameEnd, endsAt, sized, decodeParts, decode}
@@ -14,6 +16,16 @@ use Rattle.image.specs.Decode.{bind, isSome, nodeAt, cellAt, build, only
 both-true : (a b : Bool) → (a && b) ≡ true → (a ≡ true) × (b ≡ true)
 both-true true b e = (refl, e)
 both-true false b e = let z : _≡_ {A = ℕ} 0 1 = cc in absurd (omega arith)
+
+-- one rule, and names that end where the name bytes do
+pub only-some : (rs : Rules) (r : Rule) → only rs ≡ some r → rs ≡ more nil r
+only-some nil r e = absurd (Option·none-ne-some _ e)
+only-some (more nil q) r e = cc
+only-some (more (more rs p) q) r e = absurd (Option·none-ne-some _ e)
+
+pub ends-some : (o : Option ℕ) (m : ℕ) → endsAt o m ≡ true → o ≡ some m
+ends-some none m e = let z : _≡_ {A = ℕ} 0 1 = cc in absurd (omega arith)
+ends-some (some t) m e = ap some (eqb-true t m e)
 
 -- lengths that an image can have
 module _ (s : List ℕ) (n m : ℕ) where

@@ -6,7 +6,8 @@ use native.Mathlib.Nat.{mul-suc, mul-zero, add-comm, pow-succ'}
 use native.Mathlib.Omega.{arith}
 use lib.ListN.{length, take, drop, length-append, length-drop}
 use lib.Seq.{length-take-le, take-all, take-append-seam, take-take, drop-drop, take-add, getD-drop}
-use Rattle.little_endian.specs.Bytes.{leBytes, packed, leNumber, leAt, AllBytes}
+use Rattle.slices.specs.Text.{AllBytes}
+use Rattle.little_endian.specs.Bytes.{leBytes, packed, leNumber, leAt}
 
 pub length-leBytes : (k x : ℕ) → length (leBytes k x) ≡ k
 unfolding leBytes
@@ -77,6 +78,22 @@ has-rest s l at e h = sym (take-all (length l) (drop at s) (rw length-drop (omeg
 pub number-at : (s : List ℕ) (at k x : ℕ) → x < 256 ^ k → Has s at (leBytes k x) → leAt s at k ≡ x
 unfolding Has leAt
 number-at s at k x lt h = ap leNumber (rw (length-leBytes k x) at h) ∙ leNumber-leBytes k x lt
+
+pub bytes-append : (s t : List ℕ) → AllBytes s → AllBytes t → AllBytes (s ++ t)
+bytes-append [] t p q i = q i
+bytes-append (b ∷ s) t p q zero = p 0
+bytes-append (b ∷ s) t p q (suc i) = bytes-append s t (λ j. p (suc j)) q i
+
+pub bytes-number : (k x : ℕ) → AllBytes (leBytes k x)
+unfolding leBytes
+bytes-number zero x i = omega arith
+bytes-number (suc k) x zero = omega arith
+bytes-number (suc k) x (suc i) = bytes-number k (x / 256) i
+
+pub bytes-packed : (k : ℕ) (xs : List ℕ) → AllBytes (packed k xs)
+unfolding packed
+bytes-packed k [] i = omega arith
+bytes-packed k (x ∷ xs) i = bytes-append (leBytes k x) (packed k xs) (bytes-number k x) (bytes-packed k xs) i
 
 bytes-take : (k : ℕ) (s : List ℕ) → AllBytes s → AllBytes (take k s)
 bytes-take zero s h i = omega arith

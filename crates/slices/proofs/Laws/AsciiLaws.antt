@@ -8,7 +8,7 @@ use borrow.Author.Tests.{ltb-true, ltb-false, lt-ltb, le-ltb}
 use lib.Dec.{ltb}
 use lib.ListN.{take, drop}
 use Rattle.slices.specs.Search.{largest}
-use Rattle.slices.specs.Text.{allAscii}
+use Rattle.slices.specs.Text.{allAscii, AllBytes}
 
 max-below : (a b k : ℕ) → (ltb a k && ltb b k) ≡ ltb (max a b) k
 max-below a b k = go (ltb a k) (ltb b k) refl refl
@@ -23,6 +23,12 @@ pub ascii-largest : (s : List ℕ) → allAscii s ≡ ltb (largest s) 128
 unfolding allAscii largest
 ascii-largest [] = refl
 ascii-largest (b ∷ s) = rw (ascii-largest s) (max-below b (largest s) 128)
+
+pub bytes-ascii : (s : List ℕ) → allAscii s ≡ true → AllBytes s
+unfolding allAscii
+bytes-ascii [] h i = omega arith
+bytes-ascii (b ∷ s) h zero = omega (arith, ltb-true b 128 (and-eq-true-iff (ltb b 128) (allAscii s) .0 h .0))
+bytes-ascii (b ∷ s) h (suc i) = bytes-ascii s (and-eq-true-iff (ltb b 128) (allAscii s) .0 h .1) i
 
 pub take-ascii : (n : ℕ) (s : List ℕ) → allAscii s ≡ true → allAscii (take n s) ≡ true
 unfolding allAscii

@@ -11,9 +11,8 @@ use lib.Dec.{leb}
 use lib.ListN.{length, take, drop, length-take, length-drop}
 use lib.Seq.{drop-nil, take-add, take-length}
 use Rattle.ascii.specs.Letters.{within}
-use Rattle.little_endian.specs.Bytes.{AllBytes}
 use Rattle.little_endian.proofs.Laws.BytesLaws.{bytes-at}
-use Rattle.slices.specs.Text.{allAscii}
+use Rattle.slices.specs.Text.{allAscii, AllBytes}
 use Rattle.slices.proofs.Laws.AsciiLaws.{take-ascii, drop-ascii}
 use Rattle.store_table.specs.Names.{sameName, has}
 use Rattle.store_table.proofs.Laws.MemberLaws.{mem-has}

@@ -5,8 +5,7 @@ use mathlib.Core.List.{List, [], _∷_, List·Memᴰ, Memᴰ·of-map}
 use Prim.Native.Nat.{ℕ, _≤_}
 use native.Mathlib.Omega.{arith}
 use lib.ListN.{length, length-map}
-use Rattle.little_endian.specs.Bytes.{AllBytes}
-use Rattle.slices.specs.Text.{allAscii}
+use Rattle.slices.specs.Text.{allAscii, AllBytes}
 use Rattle.store_table.specs.Stores.{entriesIn, isList, namesOf}
 use Rattle.store_table.proofs.Laws.TableBytesLaws.{AllFit, table-of}
 use Rattle.store_table.specs.Inner.ListBytes.{plain, listOf}

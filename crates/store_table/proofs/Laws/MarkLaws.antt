@@ -7,7 +7,7 @@ use native.Mathlib.Omega.{arith}
 use lib.Dec.{leb}
 use lib.ListN.{length, getD, take, set}
 use Rattle.slices.proofs.Laws.WrittenLaws.{after-set}
-use Rattle.little_endian.specs.Bytes.{AllBytes}
+use Rattle.slices.specs.Text.{AllBytes}
 use Rattle.store_table.specs.Names.{sameName, has}
 use Rattle.store_table.proofs.Laws.NamesLaws.{has-next}
 use Rattle.store_table.proofs.Laws.SameLaws.{same-not}

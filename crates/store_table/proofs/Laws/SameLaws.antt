@@ -6,7 +6,8 @@ use Prim.Native.Nat.{ℕ, _+_, _≤_}
 use borrow.Author.Tests.{eq-eqb}
 use lib.ListN.{length, drop, take-append-drop}
 use lib.Seq.{drop-drop}
-use Rattle.little_endian.specs.Bytes.{leBytes, leAt, AllBytes}
+use Rattle.slices.specs.Text.{AllBytes}
+use Rattle.little_endian.specs.Bytes.{leBytes, leAt}
 use Rattle.little_endian.proofs.Laws.BytesLaws.{Has, length-leBytes, at-number}
 use Rattle.store_table.specs.Names.{sameName}
 use Rattle.store_table.proofs.Laws.MemberLaws.{same-eq}

@@ -1,17 +1,16 @@
 -- The bytes of a table or a list that has given entries are well-made, and its entries are those. Assumes nothing.
 use mathlib.Core.Path.{_≡_, refl, sym, _∙_}
-use mathlib.Core.Bool.{true, and-eq-true-iff}
+use mathlib.Core.Bool.{true}
 use mathlib.Core.List.{List, [], _∷_, _++_, map, List·Memᴰ, List·Memᴰ·head, List·Memᴰ·tail}
-use Prim.Native.Nat.{ℕ, zero, suc, _+_, _*_, _/_, _≤_}
+use Prim.Native.Nat.{ℕ, zero, suc, _+_, _*_, _≤_}
 use native.Mathlib.Omega.{arith}
-use borrow.Author.Tests.{ltb-true, le-leb}
-use lib.Dec.{ltb}
+use borrow.Author.Tests.{le-leb}
 use lib.ListN.{length, take, drop, length-append, length-map}
 use lib.Seq.{take-append-seam, drop-append-seam, take-at, drop-at, drop-drop}
-use Rattle.little_endian.specs.Bytes.{AllBytes, leBytes, leAt}
-use Rattle.little_endian.proofs.Laws.BytesLaws.{leNumber-leBytes}
-use Rattle.slices.specs.Text.{allAscii}
-use Rattle.slices.proofs.Laws.AsciiLaws.{append-ascii}
+use Rattle.little_endian.specs.Bytes.{leBytes, leAt}
+use Rattle.little_endian.proofs.Laws.BytesLaws.{leNumber-leBytes, bytes-append, bytes-number}
+use Rattle.slices.specs.Text.{allAscii, AllBytes}
+use Rattle.slices.proofs.Laws.AsciiLaws.{bytes-ascii, append-ascii}
 use Rattle.store_table.specs.Stores.{Entry, entriesFrom, entriesIn, sum, allAtMost, wellMade, Laid}
 use Rattle.store_table.proofs.Laws.StoresLaws.{made-names, well-made-laid}
 use Rattle.store_table.specs.TableBytes.{modes, lengths, joined, tableOf}
@@ -70,27 +69,10 @@ module _ {most : ℕ} where
   sum-few (e ∷ es) fit = omega (arith, fit e (List·Memᴰ·head refl) .short, sum-few es (fit-rest fit))
 
 -- ---- all of them are bytes
-bytes-append : (s t : List ℕ) → AllBytes s → AllBytes t → AllBytes (s ++ t)
-bytes-append [] t p q i = q i
-bytes-append (b ∷ s) t p q zero = p 0
-bytes-append (b ∷ s) t p q (suc i) = bytes-append s t (λ j. p (suc j)) q i
-
-bytes-number : (k x : ℕ) → AllBytes (leBytes k x)
-unfolding leBytes
-bytes-number zero x i = omega arith
-bytes-number (suc k) x zero = omega arith
-bytes-number (suc k) x (suc i) = bytes-number k (x / 256) i
-
 bytes-map : (f : Entry → ℕ) (es : List Entry) → ((e : Entry) → List·Memᴰ e es → f e ≤ 255) → AllBytes (map f es)
 bytes-map f [] h i = omega arith
 bytes-map f (e ∷ es) h zero = omega (arith, h e (List·Memᴰ·head refl))
 bytes-map f (e ∷ es) h (suc i) = bytes-map f es (λ x m. h x (List·Memᴰ·tail m)) i
-
-bytes-ascii : (s : List ℕ) → allAscii s ≡ true → AllBytes s
-unfolding allAscii
-bytes-ascii [] h i = omega arith
-bytes-ascii (b ∷ s) h zero = omega (arith, ltb-true b 128 (and-eq-true-iff (ltb b 128) (allAscii s) .0 h .0))
-bytes-ascii (b ∷ s) h (suc i) = bytes-ascii s (and-eq-true-iff (ltb b 128) (allAscii s) .0 h .1) i
 
 -- ---- what is read in the bytes of a table
 module _ (most : ℕ) (es : List Entry) (low : most ≤ 255) (few : length es ≤ 64) (fit : AllFit most es) where

@@ -15,6 +15,8 @@ use Rattle.grammar.proofs.Laws.NumberLaws.{read-number}
 use Rattle.read.specs.Outcome.{outcome, readingOf, readInto}
 use Rattle.read.proofs.Laws.BufferLaws.{reads}
 use Rattle.read.specs.declared.Reading.{Reading}
+use Rattle.store_table.specs.Stores.{entriesIn}
+use Rattle.store_table.proofs.Laws.DistinctLaws.{no-twin-distinct}
 use Rattle.decide.proofs.Laws.ReadDecideLaws.{decide-read-says}
 use Rattle.verdict.specs.Check.{checkDecoded, checkOf, judgeRead, judgeOf}
 use Rattle.verdict.specs.Guarantee.{Checked, bytesWritten, thenCheck, Judged}
@@ -62,7 +64,7 @@ module _ (text s : List ℕ) where
   judged = record {
     guarantee = λ t. guaranteed (λ r. readOf text ≡ rule r) t (λ r e. judge-read e) (held (readOf text) refl);
     unread = λ f e. let (low, high) = read-number text f e in (judge-read e, low, high);
-    decides = λ r e table lone buffer room age l is. rw (image-written buffer room e) (decide-read-says text r e s age l table lone is);
+    decides = λ r e table distinct buffer room age l is. rw (image-written buffer room e) (decide-read-says text r e s age l table (no-twin-distinct (entriesIn s) .1 distinct) is);
     read-check = λ buffer room. rw (reads text buffer room refl) (read-then-check buffer (readOf text) refl);
   }
     where

@@ -10,8 +10,10 @@ use borrow.Author.Tests.{leb-false}
 use Rattle.refusals.specs.Refusals.{refusal, unknownStore, unconfirmed, archiveOnly}
 use Rattle.rules.specs.Rule.{Rule}
 use Rattle.store_table.specs.Names.{has}
-use Rattle.store_table.specs.Stores.{isReadable, entriesIn, namesOf}
+use Rattle.store_table.specs.Stores.{isReadable, entriesIn, namesOf, twinOf}
 use Rattle.store_table.proofs.Laws.MemberLaws.{has-mem, mem-has}
+use Rattle.store_table.specs.declared.Twin.the-variants.{No as Lone}
+use Rattle.store_table.proofs.Laws.DistinctLaws.{no-twin-distinct}
 use Rattle.store_table.proofs.Laws.EntryLaws.{entry-mode, name-entry, entry-named, OneReady, NoneReady, ready-or-none}
 use Rattle.evaluate.specs.Evict.{worldOf, evict}
 use Rattle.decide.specs.Decide.{listNames}
@@ -65,9 +67,12 @@ unreadable-two {mode} le e = omega (arith, leb-false mode 1 e)
 
 -- ---- a table with at least one store and no name twice
 module _ {s : List ℕ} (t : Table s) (r : Rule) where
+  no-twin : twinOf (entriesIn s) ≡ Lone
+  no-twin = no-twin-distinct (entriesIn s) .1 (t .distinct)
+
   -- check's answer is the verdict of the three tests
   check-verdict : checkRule r s ≡ verdict (unknownIn (entriesIn s) r 0) (bare r (entriesIn s)) (archived r (entriesIn s))
-  check-verdict = sym (by-tests r s (record { table = t .made; lone = t .lone; stored = λ e. omega (arith, t .stored) }) refl)
+  check-verdict = sym (by-tests r s (record { table = t .made; lone = no-twin; stored = λ e. omega (arith, t .stored) }) refl)
 
   known-no : Known r s → unknownIn (entriesIn s) r 0 ≡ No
   known-no k = no-unknown (entriesIn s) r 0 (λ w m. stored w (k w m))
@@ -119,7 +124,7 @@ module _ {s : List ℕ} (t : Table s) (r : Rule) where
       by true e =
           let (l, j) = write-only-is s t in
           let (x, m, q, on) = safe oldest (omega arith) l (j .list) (write-only-same r s oldest l j ∙ e) in
-          absurd (write-only-unready (entriesIn s) (t .lone) x m q (mem-has (write-only-mem s (x .name) (j .just (x .name) .0 on))))
+          absurd (write-only-unready (entriesIn s) no-twin x m q (mem-has (write-only-mem s (x .name) (j .just (x .name) .0 on))))
       by false e = refl
 
   -- ---- the guarantee
