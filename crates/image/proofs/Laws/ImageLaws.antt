@@ -1,11 +1,10 @@
 -- 16, as one law: bytes are read as a rule exactly if the rule fits and they are its image. Assumes nothing.
-use mathlib.Core.Path.{_≡_, refl, ap, _∙_}
+use mathlib.Core.Path.{_≡_, ap, _∙_}
 use mathlib.Core.Bool.{true}
 use mathlib.Core.List.{List, _++_}
 use mathlib.Core.Logic.{_↔_}
-use mathlib.Core.Option.{Option, none, some}
+use mathlib.Core.Option.{some}
 use Prim.Native.Nat.{ℕ}
-use native.Mathlib.Omega.{arith}
 use lib.ListN.{length}
 use Rattle.rules.specs.Rule.{Rule, size}
 use Rattle.slices.specs.Text.{AllBytes}
@@ -14,6 +13,7 @@ use Rattle.image.specs.Encode.{names, tags, args, imageOf, encode, Fits}
 use Rattle.image.specs.Decode.{isSome, decode}
 use Rattle.little_endian.proofs.Laws.BytesLaws.{bytes-append, bytes-number, bytes-packed}
 use Rattle.slices.proofs.Laws.AsciiLaws.{bytes-ascii}
+use Rattle.image.proofs.Laws.FitLaws.{isSome-true}
 use Rattle.image.proofs.Laws.RoundTripLaws.{image-decodes}
 use Rattle.image.proofs.Laws.DecodeLaws.{decoded-image, decoded-fits}
 
@@ -32,10 +32,6 @@ pub encode-bytes : (r : Rule) → Fits r → AllBytes (encode r)
 unfolding encode
 encode-bytes r fits = image-bytes (size r) (tags r) (args r 0) (names r) (bytes-ascii (names r) (fits .ascii))
 
-some-rule : (o : Option Rule) → (isSome o ≡ true) → (r : Rule) × (o ≡ some r)
-some-rule none e = let z : _≡_ {A = ℕ} 0 1 = cc in absurd (omega arith)
-some-rule (some r) e = (r, refl)
-
 module _ (s : List ℕ) (bytes : AllBytes s) where
   -- bytes are read as a rule exactly if the rule fits and they are its image
   pub decode-encode : (r : Rule) → (decode s ≡ some r) ↔ (Fits r × (s ≡ encode r))
@@ -43,9 +39,10 @@ module _ (s : List ℕ) (bytes : AllBytes s) where
 
   -- and as some rule, so that 16 is not due, exactly if a rule that fits has them as its image
   pub is-image : (isSome (decode s) ≡ true) ↔ ((r : Rule) × Fits r × (s ≡ encode r))
-  is-image =
-      let rule-of : isSome (decode s) ≡ true → (r : Rule) × Fits r × (s ≡ encode r) = λ e.
-      let (r, d) = some-rule (decode s) e in
-      let (fits, image) = decode-encode r .0 d in
-      (r, fits, image) in
-      (rule-of, λ h. ap isSome (decode-encode (h .0) .1 (h .1, h .2)))
+  is-image = (to, λ h. ap isSome (decode-encode (h .0) .1 (h .1, h .2)))
+    where
+      to : isSome (decode s) ≡ true → (r : Rule) × Fits r × (s ≡ encode r)
+      to e =
+          let (r, d) = isSome-true (decode s) e in
+          let (fits, image) = decode-encode r .0 d in
+          (r, fits, image)
