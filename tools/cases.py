@@ -1,9 +1,10 @@
 #!/usr/bin/env python3
 """Writes cases that the program `replay` runs, with document 01's answers, as amended by the jobs of document 02 that have landed.
 
-usage: { python3 tools/cases.py; compare/make-list; } > crates/replay/stdin
+usage: python3 tools/cases.py
 
-`compare/make-list` adds cases with the Rust's own answers, in the same format.
+`compare/make-list` prints cases with the Rust's own answers, in the same format, and `tools/list.py` makes the program's list of both:
+the questions in crates/replay/stdin, and the answers in crates/replay/stdout.
 
 A case is a line. `read TEXT BUFFER ANSWER`: the text in hex (`-` where it is empty), the length of
 the lent buffer, and either `no NUMBER PLACE` or `ok IMAGE`, the bytes written in hex.
@@ -12,7 +13,8 @@ the lent buffer, and either `no NUMBER PLACE` or `ok IMAGE`, the bytes written i
 `check IMAGE STORES ANSWER` and `judge TEXT STORES ANSWER`: the image or the text and the table of
 stores in hex, and `pass` or `no NUMBER PLACE`. `print IMAGE BUFFER ANSWER`: the image in hex, the
 length of the lent buffer, and either `no NUMBER PLACE` or `ok TEXT`, the bytes written in hex (`-`
-where there are none). The answers come from the small reader, decider, checker and printer below,
+where there are none). `report TEXT ARGUMENTS ok PAGE`: a text, stores as arguments with a 0 after
+each, and the page that `rulejudge` prints, all in hex. The answers, but for the pages, come from the small reader, decider, checker and printer below,
 which follow document 01 sentence by sentence. Where document 01 or the list of traps states an
 answer itself, they are held to it first. Where the table is small, a pass, a 21 and a 22 are held to
 what the decisions for every confirmed list and the ages that matter show, by demand 3. Where a
@@ -548,6 +550,29 @@ def sheet():
     ok(b'older_than(30d) && readable(1)', 3, 0, root=(ALL, 0))
     ok(b'at_least(2, older_than(30d), vault)', 3, 5, root=(AT_LEAST, 2))
     ok(b'vault && cellar', 3, 11, root=(ALL, 0))
+
+
+def stated_rows():
+    note('Further texts whose answers are stated: tokens, counts, durations and rules')
+    ok(b'"it\'s"', 1, 4, root=(NAMED, 4))
+    ok(b'a aNd b OR c', 5, 3, root=(ANY, 0))
+    ok(b'a\t||\x0bb', 3, 2, root=(ANY, 0))
+    no(b'a | b', 4, 2)
+    no(b'"a\'', 5, 0)
+    ok(b"'\0\x7f'", 1, 2, root=(NAMED, 2))
+    no(b'readable(1x)', 12, 9)
+    ok(b'readable(000000000000000000007)', 1, 0, root=(READABLE, 7))
+    ok(b"older_than(' 30d ')", 1, 0, root=(OLDER, 2592000000))
+    no(b'older_than(1h1h)', 13, 11)
+    no(b'older_than(30)', 13, 11)
+    ok(b"older_than('\t1 \n\x0b\x0c\r w 2 ms')", 1, 0, root=(OLDER, 604800002))
+    no(b"older_than('0000000001 w')", 13, 11)
+    no(b"older_than('1 0w')", 13, 11)
+    ok(b"'nas' || ReadAble", 3, 3, root=(ANY, 0))
+    ok(b'any(\'ANY\', "readable")', 3, 11, root=(ANY, 0))
+    no(b"('any'(a))", 8, 6)
+    no(b"any(b, 'any'(a))", 8, 12)
+    no(b'at_least(1, "x" (a))', 8, 16)
 
 
 def orders():
@@ -1952,6 +1977,16 @@ def verdict_sheet():
     judged(b"'readable'(1)", stores_of(readable=0), 'no 9 10')
     judged(b"any('readable'(1))", stores_of(readable=0), 'no 8 14')
     judged(b"'any'(nas)", HOME, 'no 9 5')
+    note('Further rules whose verdicts are stated')
+    both(b'nas && (mirror || desk)', HOME, 'no 20 1')
+    both(b'older_than(1d) || desk', HOME, 'no 20 1')
+    both(b'older_than(1d)', HOME, BARE)
+    both(b"'Readable'", stores_of(readable=0), 'no 20 0')
+    both(b"'readable' || nas", HOME, 'no 20 0')
+    both(b'desk || older_than(1d)', stores_of(), PASS)
+    both(b'desk', table((0, b'nas'), (2, b'nas'), (0, b'nas')), 'no 18 1')
+    both(b'desk', b'', 'no 17 0')
+    judged(b'any()', b'', 'no 14 0')
 
 
 def archive_cases():
@@ -2417,7 +2452,12 @@ def printed_sheet():
                          (b'at_least(2,nas,vault)', b'at_least(2, nas, vault)'), (b'nas and Readable', b'nas && readable(1)'),
                          (b'OLDER_than(30d)&&readable(1)', b'older_than(30d) && readable(1)'),
                          (b'at_least(2, older_than(30d), vault)', b'at_least(2, older_than(30d), vault)'),
-                         (b'vault && cellar', b'vault && cellar')):
+                         (b'vault && cellar', b'vault && cellar'), (b'(a || b) and ANY(c, d)', b'(a || b) && (c || d)'),
+                         (b'a || (b && (c || d))', b'a || b && (c || d)'),
+                         (b'at_least(2, nas, any(a, b), all(c, d))', b'at_least(2, nas, a || b, c && d)'),
+                         (b"READABLE && older_than('1h 30m')", b'readable(1) && older_than(1h30m)'),
+                         (b"'READABLE' && READABLE", b'READABLE && readable(1)'),
+                         (b"older_than(2w) || older_than('30 d')", b'older_than(14d) || older_than(30d)')):
         prints(text, stated, rooms=(NEED, MEMORY))
 
 
@@ -2657,28 +2697,61 @@ def all_printings():
         sys.exit('too few texts were read again: %r' % trips)
 
 
+# The pages of `rulejudge`
+
+TWO = (b'nas:read-write', b'vault:write-only')
+AGE = b'age: 18446744073709551615 ms, the largest'
+
+
+def report(text, stores, *lines):
+    """A page that is stated here: the text of a rule, stores as arguments, and the lines that a person is shown."""
+    given, page = b''.join(store + b'\0' for store in stores), b''.join(line + b'\n' for line in lines)
+    out.append('report %s %s ok %s' % (text.hex() or '-', given.hex() or '-', page.hex()))
+    seen.add(('report', text, given))
+
+
+def pages():
+    report(b'older_than(30d) && readable(1)', TWO, b'pass',
+           b'at any age, the rule says evict only if a readable store has confirmed')
+    report(b'at_least(2, older_than(30d), vault)', TWO, b'no 22 0',
+           b'archive only: the rule says evict with only write-only stores confirmed', b'confirmed: vault', AGE)
+    report(b'caf\xc3\xa9 || nas', TWO, b'no 3 3', b'foreign byte: this byte is not ASCII', b'caf?? || nas', b'   ^')
+    report(b'nas & vault', TWO, b'no 4 4', b'half sign: this sign stands alone: write `&&` or `||`', b'nas & vault', b'    ^')
+    report(b"nas && 'vault", TWO, b'no 5 7', b'open quote: this quote is not closed', b"nas && 'vault", b'       ^')
+    report(b'nas # vault', TWO, b'no 6 4', b'stray character: nothing in a rule begins with this character', b'nas # vault', b'    ^')
+    report(b'readable(1 ', TWO, b'no 8 11', b'open bracket: a `)` is expected here', b'readable(1 ', b'          ^')
+    report(b'nas && attic', TWO, b'no 20 1', b'unknown store: the rule names a store that is not in the table', b'attic')
+    report(b'nas || older_than(1d)', TWO, b'no 21 0', b'unconfirmed: the rule says evict with nothing confirmed',
+           b'confirmed: nothing', AGE)
+    report(b'nas', (b'nas:read-write', b'nas:read-only'), b'no 18 1', b'twin name: two stores have this name', b'argument 2')
+    report(b'nas', (), b'pass', b'the rule reads; no stores are given to check it against')
+    report(b'nas', (b'nas',), b'argument 1: no colon; a store is given as name:mode')
+    report(b'nas', (b'a:b:write-only', b'nas:rw'), b'argument 2: no such mode; it is read-write, read-only or write-only')
+    report(b'nas', [b'nas%d:read-write' % index for index in range(65)], b'more than 64 stores are given')
+
 
 def main():
-    note('Made by { python3 tools/cases.py; compare/make-list; } > crates/replay/stdin')
     note('Answers of the documents, printed by tools/cases.py')
-    note('read TEXT BUFFER no NUMBER PLACE, or read TEXT BUFFER ok IMAGE; the text and the image in hex')
-    for part in (sheet, orders, depths, word_cases, quoted_cases, count_cases, duration_cases, week_cases, list_cases, chain_cases,
+    note('read TEXT BUFFER: ok IMAGE, or no NUMBER PLACE; the text and the image in hex')
+    for part in (sheet, stated_rows, orders, depths, word_cases, quoted_cases, count_cases, duration_cases, week_cases, list_cases, chain_cases,
                  single_bytes, pairs, lengths, rooms, random_cases):
         part()
     # The deepest image has 2,048 nodes above each other.
     sys.setrecursionlimit(10000)
-    note('decide IMAGE STORES AGE LIST evict, or keep, or no NUMBER PLACE; image, table and list in hex')
+    note('decide IMAGE STORES AGE LIST: evict, keep, or no NUMBER PLACE; image, table and list in hex')
     for part in (decided_sheet, named_cases, older_cases, readable_cases, combined_cases, nested_cases,
                  image_cases, flipped_cases, table_cases, refusal_orders, large_images, drawn_decisions):
         part()
-    note('check IMAGE STORES pass, or no NUMBER PLACE; judge TEXT STORES pass, or no NUMBER PLACE; all in hex')
+    note('check IMAGE STORES, and judge TEXT STORES: pass, or no NUMBER PLACE; all in hex')
     for part in (verdict_sheet, archive_cases, mode_cases, stage_cases, storeless_cases, store_name_cases, full_tables,
                  turned_cases, large_rules, drawn_verdicts, all_verdicts):
         part()
-    note('print IMAGE BUFFER no NUMBER PLACE, or print IMAGE BUFFER ok TEXT; the image and the text in hex')
+    note('print IMAGE BUFFER: ok TEXT, or no NUMBER PLACE; the image and the text in hex')
     for part in (printed_sheet, printed_counts, printed_durations, printed_names, printed_shapes, printed_bounds,
                  printed_damages, printed_large, drawn_printings, all_printings):
         part()
+    note('report TEXT ARGUMENTS: ok PAGE; each argument with a 0 after it, all in hex')
+    pages()
     sys.stdout.write('\n'.join(out) + '\n')
     sys.stderr.write('%d cases\n' % len(seen))
 

@@ -1,39 +1,23 @@
-// Memory that a call is lent: what it must hold afterwards, and whether it does. Such a case names the length of the lent
-// buffer and ends with `no NUMBER PLACE`, or with `ok BYTES`, the bytes written in hex, or a dash where there are none.
-use crate::fields::Found;
-use crate::fields::blanks;
-use crate::fields::bytes;
-use crate::fields::decimal;
-use crate::fields::field;
-use crate::fields::rest;
-use crate::outcome::Answer;
-use crate::outcome::Outcome;
-use crate::outcome::Wanted;
-use crate::outcome::accepted;
-use crate::outcome::expected_refusal;
-use crate::outcome::is_same;
+// The calls that are lent memory: `read TEXT BUFFER` and `print IMAGE BUFFER`, the text and the image in hex, and the length of the
+// lent buffer in decimal.
+ghost use Prim.Native.Nat.{_≤_};
+use crate::answers::REFUSED;
+use crate::answers::print_bytes;
+use crate::answers::print_fault;
+use crate::answers::print_refusal;
+use crate::fields::front;
+use decimal::Parsed;
+use decimal::count::parse_count;
+use libc::STDOUT_FILENO;
 
-// What a line asks of a call that is lent memory: the length of the buffer and the answer; or nothing where it is not in the
-// format.
-pub enum Asked {
-    Case { room: usize, hoped: Answer },
-    Nothing,
-}
+// What every byte of the memory is before a call. No text has such a byte, and few images.
+const FILL: u8 = 165;
 
-// Fills memory with a pattern, so that every byte written can be told from one left alone.
-fn fill(memory: &mut [u8]) {
-    let mut i = 0;
+// Where a memory is first changed, from a position on, or its length.
+fn changed_at(memory: &[u8], from: usize) -> usize {
+    let mut i = from;
     while i < memory.len() {
-        memory[i] = ((i % 256 * 7 + 13) % 256) as u8;
-        i += 1;
-    }
-}
-
-// The first place where two memories of one length differ, or the length.
-fn first_difference(a: &[u8], b: &[u8]) -> usize {
-    let mut i = 0;
-    while i < a.len() && i < b.len() {
-        if a[i] != b[i] {
+        if memory[i] != FILL {
             return i;
         }
         i += 1;
@@ -41,72 +25,60 @@ fn first_difference(a: &[u8], b: &[u8]) -> usize {
     i
 }
 
-// The bytes that are expected, where a line ends with just `ok BYTES`: how many, and they themselves at the front of the
-// memory that is wanted.
-fn expected_bytes(end: &[u8], wanted: &mut [u8]) -> Wanted {
-    if blanks(end) != 1 {
-        return Wanted::Nothing;
+// Says so before the answer where the memory is changed after the bytes written.
+fn print_change(memory: &[u8], written: usize) {
+    let place = changed_at(memory, written);
+    if place < memory.len() {
+        io::write_all(STDOUT_FILENO, b"memory changed at ");
+        io::print_decimal(STDOUT_FILENO, place as u64);
+        io::write_all(STDOUT_FILENO, b": ");
     }
-    let Found::Number(size) = bytes(field(end, 1), wanted) else {
-        return Wanted::Nothing;
-    };
-    Wanted::Answer(accepted(size as u64))
 }
 
-// The answer that the end of a line expects. The memory that is wanted holds the pattern, and bytes are written over it.
-fn expected(end: &[u8], wanted: &mut [u8]) -> Wanted {
-    let word = field(end, 0);
-    if ascii::eq(word, b"no") {
-        return expected_refusal(end);
+// The answer of a call in a memory: the bytes that it wrote to its front, or a refusal.
+fn print_lent(answer: u64, memory: &[u8]) {
+    if answer < REFUSED {
+        print_change(memory, answer as usize);
+        print_bytes(front(memory, answer as usize));
+    } else {
+        print_change(memory, 0);
+        print_refusal(answer);
     }
-    if ascii::eq(word, b"ok") {
-        return expected_bytes(end, wanted);
-    }
-    Wanted::Nothing
 }
 
-// How much memory the case on a line takes: the lent buffer, and some bytes behind it to tell whether they were left alone.
-pub fn extent(line: &[u8]) -> usize {
-    let Found::Number(room) = decimal(field(line, 2)) else {
-        return 0;
-    };
-    if room < 1_000_000 { room + 1000 } else { room }
-}
-
-// Fills both memories with the pattern, writes the bytes that are expected over the one that is wanted, and answers what the
-// line asks.
-pub fn prepare(line: &[u8], memory: &mut [u8], wanted: &mut [u8]) -> Asked {
-    let Found::Number(room) = decimal(field(line, 2)) else {
-        return Asked::Nothing;
-    };
-    if room > memory.len() {
-        return Asked::Nothing;
-    }
-    fill(memory);
-    fill(wanted);
-    let Wanted::Answer(hoped) = expected(rest(line, 3), wanted) else {
-        return Asked::Nothing;
-    };
-    Asked::Case { room, hoped }
-}
-
-// The bytes at the front of memory to be written, as many as asked and no more than there are: the buffer that is lent.
-pub fn front_mut(s: &mut [u8], size: usize) -> &mut [u8] {
+// The bytes at the front of a memory, as many as asked and no more than there are.
+fn front_mut(s: &mut [u8], size: usize) -> &mut [u8] {
     if size < s.len() {
         return &mut s[0..size];
     }
     s
 }
 
-// What a case comes to: its answer against the one that is expected, and every byte of the memory against the one that is
-// wanted.
-pub fn compare(memory: &[u8], wanted: &[u8], answer: Answer, hoped: Answer) -> Outcome {
-    let agree = first_difference(memory, wanted);
-    if is_same(answer, hoped) && agree == memory.len() {
-        return Outcome::Agrees;
+// Reads a text or prints an image into a buffer.
+fn answer_in(is_read: bool, given: &[u8], buffer: &mut [u8]) -> u64 {
+    if is_read {
+        return prune::prune_read(given, buffer);
     }
-    Outcome::Differs {
-        answer,
-        agree: agree as u64,
+    prune::prune_print(given, buffer)
+}
+
+// Runs a call in a memory that has the lent buffer and 1,000 bytes after it.
+fn run_in(is_read: bool, given: &[u8], room: usize)
+    requires { ⌜ room ≤ 131_072 ⌝ }
+{
+    let mut memory = [FILL; 132072];
+    let lent = front_mut(&mut memory, room + 1000);
+    let answer = answer_in(is_read, given, front_mut(lent, room));
+    print_lent(answer, lent);
+}
+
+// Reads a text or prints an image. The longest text of a rule has 90,026 bytes.
+pub fn run(is_read: bool, given: &[u8], field: &[u8]) {
+    let Parsed::Value(room) = parse_count(field) else {
+        return print_fault();
+    };
+    if room > 131_072 {
+        return print_fault();
     }
+    run_in(is_read, given, room as usize)
 }
