@@ -16,7 +16,7 @@ use Rattle.grammar.specs.Reading.{Read, rule, refused, readOf}
 use Rattle.store_table.specs.Stores.{Entry}
 use Rattle.verdict.specs.declared.Verdict.{Verdict}
 use Rattle.verdict.specs.declared.Verdict.the-variants.{Pass, Refused}
-use Rattle.verdict.specs.Check.{oldest, writeOnly}
+use Rattle.verdict.specs.Check.{oldest, writeOnlyNames}
 use Rattle.read_line.specs.Reading.{refusalLine}
 
 -- ---- the first line: `pass` or `no NUMBER PLACE`
@@ -62,7 +62,7 @@ detail text es f =
     (cond (eqb n twinName) (bytes "argument " ++ (digitsOf (suc (f .place)) ++ lineEnd))
     (cond (eqb n unknownStore) (shownAll (nodeName (readOf text) (f .place)) ++ lineEnd)
     (cond (eqb n unconfirmed) (bytes "confirmed: nothing" ++ (lineEnd ++ ageLine))
-    (cond (eqb n archiveOnly) (confirmedLines (writeOnly es) ++ ageLine)
+    (cond (eqb n archiveOnly) (confirmedLines (writeOnlyNames es) ++ ageLine)
     []))))
 
 -- ---- the lines behind the first

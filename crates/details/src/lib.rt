@@ -4,7 +4,7 @@ ghost use lib.ListN.{length};
 ghost use Rattle.slices.specs.Written.{Put};
 ghost use Rattle.grammar.specs.Reading.{readOf};
 ghost use Rattle.store_table.specs.Stores.{Laid, entriesIn};
-ghost use Rattle.verdict.specs.Check.{writeOnly};
+ghost use Rattle.verdict.specs.Check.{writeOnlyNames};
 ghost use Rattle.lines.specs.Lines.{textEnd, markedLine, shownAll};
 ghost use Rattle.details.specs.Report.{nodeName, ageLine, confirmedLine, confirmedLines, detail};
 ghost use Rattle.details.specs.Inner.Room.{Room};
@@ -19,6 +19,7 @@ use read::Reading;
 use refusals::Refusal;
 use slices::append;
 use slices::behind_last;
+use store_table::WRITE_ONLY;
 use store_table::count_of;
 use store_table::wide;
 use verdict::OLDEST;
@@ -81,7 +82,7 @@ fn append_confirmed(page: &mut [u8], at: usize, name: &[u8]) -> usize
 // A line for each write-only store.
 fn append_write_only(page: &mut [u8], at: usize, stores: &[u8]) -> usize
     requires { ⌜ Laid (now stores) × (at + length (now stores) + 768 ≤ length (now page)) ⌝ }
-    ensures { λ r. ⌜ Put (now (page .entry)) (now (page .exit)) at r (confirmedLines (writeOnly (entriesIn (now (stores .entry))))) ⌝ }
+    ensures { λ r. ⌜ Put (now (page .entry)) (now (page .exit)) at r (confirmedLines (writeOnlyNames (entriesIn (now (stores .entry))))) ⌝ }
 {
     let count = count_of(stores);
     let mut k = 0;
@@ -89,7 +90,7 @@ fn append_write_only(page: &mut [u8], at: usize, stores: &[u8]) -> usize
     let mut end = at;
     while k < count {
         let len = wide(stores[4 + count + k]);
-        if stores[4 + k] == 2 {
+        if stores[4 + k] == WRITE_ONLY {
             end = append_confirmed(page, end, &stores[start..start + len]);
         }
         start += len;

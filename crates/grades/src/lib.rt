@@ -17,6 +17,7 @@ use image::node_at;
 use lookup::find;
 use store_table::Found;
 use store_table::Twin;
+use store_table::WRITE_ONLY;
 use verdict::OLDEST;
 use verdict::Unknown;
 
@@ -45,7 +46,7 @@ fn test_grade(kind: u64, arg: u64) -> u8
 fn name_grade(mode: u8) -> u8
     ensures { λ r. ⌜ r ≡ nameGrade mode ⌝ }
 {
-    if mode == 2 { 1 } else { 0 }
+    if mode == WRITE_ONLY { 1 } else { 0 }
 }
 
 // Writes the grade of each leaf of an image, up to the first node that names no store.

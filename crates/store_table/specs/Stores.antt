@@ -11,6 +11,16 @@ use Rattle.store_table.specs.Names.{has}
 use Rattle.store_table.specs.declared.Twin.{Twin}
 use Rattle.store_table.specs.declared.Twin.the-variants.{No, At}
 
+-- "Modes: 0 read-write, 1 read-only, 2 write-only"
+abbrev pub readWrite : ℕ
+readWrite = 0
+
+abbrev pub readOnly : ℕ
+readOnly = 1
+
+abbrev pub writeOnly : ℕ
+writeOnly = 2
+
 -- an entry of a table or a list: its mode and its name
 pub record Entry : Type 0 where
   pub mode : ℕ
@@ -60,17 +70,17 @@ wellMade most s =
     leb 4 (length s) && leb (countIn s) 64 && eqb (length s) (4 + 2 * countIn s + totalIn s) && eqb (sum (lengthsIn s)) (totalIn s)
     && allAtMost most (modesIn s) && allAscii (nameBytesIn s)
 
--- "Modes: 0 read-write, 1 read-only, 2 write-only"
+-- a store table: no mode is above the last
 abbrev pub isTable : List ℕ → Bool
-isTable = wellMade 2
+isTable = wellMade writeOnly
 
 -- "A confirmed list has modes 0"
 abbrev pub isList : List ℕ → Bool
-isList = wellMade 0
+isList = wellMade readWrite
 
 -- "0 and 1 are readable"
 unfoldable pub isReadable : ℕ → Bool
-isReadable mode = leb mode 1
+isReadable mode = leb mode readOnly
 
 -- the names of the entries whose mode is from lo up to hi
 unfoldable pub namesOf : ℕ → ℕ → List Entry → List (List ℕ)

@@ -3,10 +3,17 @@ ghost use mathlib.Core.Path.{_≡_};
 ghost use Prim.Native.Nat.{_<_, _+_, _≤_};
 ghost use lib.ListN.{length, drop, take};
 ghost use Rattle.store_table.specs.Names.{sameName};
-ghost use Rattle.store_table.specs.Stores.{isReadable, sum, allAtMost, wellMade, Laid, countIn};
+ghost use Rattle.store_table.specs.Stores.{isReadable, sum, allAtMost, wellMade, isTable, isList, Laid, countIn};
 use little_endian::le2;
 use little_endian::le8;
 use slices::ascii_from;
+
+// The modes of a store.
+pub const READ_WRITE: u8 = 0;
+
+pub const READ_ONLY: u8 = 1;
+
+pub const WRITE_ONLY: u8 = 2;
 
 // The index of a store whose name an earlier store has, or none.
 pub enum Twin {
@@ -57,7 +64,7 @@ pub fn same_name(a: &[u8], b: &[u8]) -> bool
 pub fn is_readable(mode: u8) -> bool
     ensures { λ r. ⌜ r ≡ isReadable mode ⌝ }
 {
-    mode <= 1
+    mode <= READ_ONLY
 }
 
 // The sum of n bytes from a position on.
@@ -90,7 +97,7 @@ fn all_at_most(s: &[u8], at: usize, n: usize, most: u8) -> bool
 }
 
 // Whether the bytes are a well-made table or list, with modes of at most `most`.
-pub fn well_made(s: &[u8], most: u8) -> bool
+fn well_made(s: &[u8], most: u8) -> bool
     ensures { λ r. ⌜ r ≡ wellMade most (now (s .entry)) ⌝ }
 {
     if s.len() < 4 {
@@ -111,6 +118,20 @@ pub fn well_made(s: &[u8], most: u8) -> bool
         return false;
     }
     ascii_from(s, 4 + 2 * count)
+}
+
+// Whether the bytes are a well-made store table.
+pub fn is_table(s: &[u8]) -> bool
+    ensures { λ r. ⌜ r ≡ isTable (now (s .entry)) ⌝ }
+{
+    well_made(s, WRITE_ONLY)
+}
+
+// Whether the bytes are a well-made confirmed list.
+pub fn is_list(s: &[u8]) -> bool
+    ensures { λ r. ⌜ r ≡ isList (now (s .entry)) ⌝ }
+{
+    well_made(s, READ_WRITE)
 }
 
 // How many entries there are.

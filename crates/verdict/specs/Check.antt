@@ -48,8 +48,8 @@ abbrev pub oldest : ℕ
 oldest = 2 ^ 64 - 1
 
 -- the names of the write-only stores
-abbrev pub writeOnly : List Entry → List (List ℕ)
-writeOnly stores = namesOf 2 2 stores
+abbrev pub writeOnlyNames : List Entry → List (List ℕ)
+writeOnlyNames stores = namesOf 2 2 stores
 
 -- "21 (largest age, nothing confirmed)"
 abbrev pub bare : Rule → List Entry → Bool
@@ -57,7 +57,7 @@ bare r stores = evict r (worldOf stores oldest [])
 
 -- "22 (largest age, exactly the write-only names, only if there are some)"
 abbrev pub archived : Rule → List Entry → Bool
-archived r stores = leb 1 (length (writeOnly stores)) && evict r (worldOf stores oldest (writeOnly stores))
+archived r stores = leb 1 (length (writeOnlyNames stores)) && evict r (worldOf stores oldest (writeOnlyNames stores))
 
 -- ---- check
 

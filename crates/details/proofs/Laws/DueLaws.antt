@@ -37,7 +37,7 @@ twin-below seen i (x ∷ es) k e = twin-step (has (x .name) seen) i k es e (twin
 
 twin-index : (s : List ℕ) (k : ℕ) → isTable s ≡ true → twinOf (entriesIn s) ≡ Twinned k → k < 64
 unfolding twinOf
-twin-index s k t e = omega (arith, twin-below [] 0 (entriesIn s) k e, made 2 s t .few, length-entries s (well-made-laid 2 s t))
+twin-index s k t e = omega (arith, twin-below [] 0 (entriesIn s) k e, made _ s t .few, length-entries s (well-made-laid _ s t))
 
 -- ---- a refusal with 18 has it
 module _ (s : List ℕ) (f : Refusal) (twin : f .number ≡ twinName) where

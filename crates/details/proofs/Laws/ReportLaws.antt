@@ -13,10 +13,10 @@ use Rattle.slices.proofs.Laws.WrittenLaws.{put-none, put-behind, put-length}
 use Rattle.slices.proofs.Laws.SearchLaws.{is-below, is-above}
 use Rattle.refusals.specs.declared.Refusal.{Refusal}
 use Rattle.lines.proofs.Laws.LinesLaws.{shown-length}
-use Rattle.store_table.specs.Stores.{Entry, Laid, countIn, entriesIn, namesOf}
+use Rattle.store_table.specs.Stores.{Entry, writeOnly, Laid, countIn, entriesIn, namesOf}
 use Rattle.store_table.specs.Inner.Index.{Standing}
 use Rattle.store_table.proofs.Laws.WalkLaws.{length-entries, standing-start, standing-next, standing-here, entryAt}
-use Rattle.verdict.specs.Check.{writeOnly}
+use Rattle.verdict.specs.Check.{writeOnlyNames}
 use Rattle.details.specs.Report.{confirmedLine, confirmedLines, detail}
 use Rattle.details.proofs.Laws.ShortLaws.{lines-short}
 
@@ -40,7 +40,7 @@ pub record Named (s a b : List ℕ) (at count k start end : ℕ) : Type 0 where
   pub stands : Standing s count k start
   pub done : List ℕ
   pub put : Put a b at end done
-  pub rest : done ++ confirmedLines (writeOnly (drop k (entriesIn s))) ≡ confirmedLines (writeOnly (entriesIn s))
+  pub rest : done ++ confirmedLines (writeOnlyNames (drop k (entriesIn s))) ≡ confirmedLines (writeOnlyNames (entriesIn s))
 
 pub named-start : (s a : List ℕ) (at count : ℕ) → Laid s → count ≡ countIn s → Named s a a at count 0 (4 + 2 * count) at
 named-start s a at count h e = record { stands = standing-start s count h e; done = []; put = put-none a at; rest = refl }
@@ -49,7 +49,7 @@ module _ {s a b : List ℕ} {at count k start end : ℕ} (h : Named s a b at cou
   pub named-length : length b ≡ length a
   named-length = put-length (omega (arith, simp length-append at (ap length (h .rest)), lines-short s (h .stands .laid))) (h .put)
 
-  pub named-end : count ≤ k → Put a b at end (confirmedLines (writeOnly (entriesIn s)))
+  pub named-end : count ≤ k → Put a b at end (confirmedLines (writeOnlyNames (entriesIn s)))
   unfolding confirmedLines namesOf
   named-end le =
       let l : length (entriesIn s) ≤ k = omega (arith, length-entries s (h .stands .laid)) in
@@ -58,7 +58,7 @@ module _ {s a b : List ℕ} {at count k start end : ℕ} (h : Named s a b at cou
 
   -- one store more, of a name of this length
   module _ (lt : k < count) {len : ℕ} (e : len ≡ getD s (4 + count + k) 0) where
-    pub named-no : (getD s (4 + k) 0 ≡ 2 → ⊥) → Named s a b at count (k + 1) (start + len) end
+    pub named-no : (getD s (4 + k) 0 ≡ writeOnly → ⊥) → Named s a b at count (k + 1) (start + len) end
     unfolding namesOf
     named-no n =
         record {
@@ -69,8 +69,8 @@ module _ {s a b : List ℕ} {at count k start end : ℕ} (h : Named s a b at cou
         }
 
     -- that is write-only
-    module _ (y : getD s (4 + k) 0 ≡ 2) where
-      rest-yes : h .done ++ (confirmedLine (entryAt s k start len .name) ++ confirmedLines (writeOnly (drop (k + 1) (entriesIn s)))) ≡ confirmedLines (writeOnly (entriesIn s))
+    module _ (y : getD s (4 + k) 0 ≡ writeOnly) where
+      rest-yes : h .done ++ (confirmedLine (entryAt s k start len .name) ++ confirmedLines (writeOnlyNames (drop (k + 1) (entriesIn s)))) ≡ confirmedLines (writeOnlyNames (entriesIn s))
       unfolding namesOf confirmedLines
       rest-yes = rw (standing-here (h .stands) lt e, y) at (h .rest)
 

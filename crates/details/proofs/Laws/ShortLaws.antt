@@ -21,7 +21,7 @@ use Rattle.grammar.proofs.Laws.FitsLaws.{read-length}
 use Rattle.store_table.specs.Stores.{Laid, entriesFrom, entriesIn, modesIn, lengthsIn, nameBytesIn, sum, namesOf}
 use Rattle.verdict.specs.declared.Verdict.{Verdict}
 use Rattle.verdict.specs.declared.Verdict.the-variants.{Pass, Refused}
-use Rattle.verdict.specs.Check.{writeOnly}
+use Rattle.verdict.specs.Check.{writeOnlyNames}
 use Rattle.details.specs.Report.{verdictLine, nameIn, nodeName, confirmedLines}
 use Rattle.details.proofs.Laws.NodeNameLaws.{unnamed}
 
@@ -72,16 +72,16 @@ name-short text i = go (readOf text) refl
     go (refused f) q = omega arith
 
 -- ---- the names of the write-only stores, with twelve bytes about each
-lines-from : (ms ls bs : List ℕ) → length (confirmedLines (writeOnly (entriesFrom ms ls bs))) ≤ 12 * length ms + sum ls
+lines-from : (ms ls bs : List ℕ) → length (confirmedLines (writeOnlyNames (entriesFrom ms ls bs))) ≤ 12 * length ms + sum ls
 unfolding entriesFrom namesOf confirmedLines sum
 lines-from [] ls bs = omega arith
 lines-from (m ∷ ms) [] bs = omega arith
-lines-from (m ∷ ms) (l ∷ ls) bs = go (within 2 2 m) (writeOnly (entriesFrom ms ls (drop l bs))) (lines-from ms ls (drop l bs))
+lines-from (m ∷ ms) (l ∷ ls) bs = go (within 2 2 m) (writeOnlyNames (entriesFrom ms ls (drop l bs))) (lines-from ms ls (drop l bs))
   where
     go : (b : Bool) (ns : List (List ℕ)) → length (confirmedLines ns) ≤ 12 * length ms + sum ls → length (confirmedLines (cond b (take l bs ∷ ns) ns)) ≤ 12 * suc (length ms) + (l + sum ls)
     go true ns h = simp (length-append, shown-length, length-take) (omega arith)
     go false ns h = omega arith
 
-pub lines-short : (s : List ℕ) → Laid s → length (confirmedLines (writeOnly (entriesIn s))) ≤ length s + 768
+pub lines-short : (s : List ℕ) → Laid s → length (confirmedLines (writeOnlyNames (entriesIn s))) ≤ length s + 768
 unfolding entriesIn
 lines-short s h = omega (arith, simp length-take at (lines-from (modesIn s) (lengthsIn s) (nameBytesIn s)))
