@@ -3,7 +3,7 @@ ghost use mathlib.Core.Path.{_≡_};
 ghost use mathlib.Core.List.{List};
 ghost use Prim.Native.Nat.{_<_, ℕ};
 ghost use lib.ListN.{length, set};
-ghost use Rattle.store_table.specs.Stores.{Laid, countIn, entriesIn, namesOf, twinOf, readyCount};
+ghost use Rattle.store_table.specs.Stores.{Laid, countIn, entriesIn, allNames, twinOf, readyCount};
 ghost use Rattle.store_table.specs.Inner.Index.{Indexed, Blank, Marked};
 ghost use Rattle.store_table.specs.Names.{has};
 use lookup::find;
@@ -31,7 +31,7 @@ pub fn mark_confirmed(
     marks: &mut [u8; 64],
 )
     requires { ⌜ Laid (now stores) × (Laid (now list) × ((twinOf (entriesIn (now stores)) ≡ Twin.No) × (Indexed (now stores) (countIn (now stores)) (now starts) (now slots) × Blank (now marks)))) ⌝ }
-    ensures { λ _. ⌜ Marked (entriesIn (now (stores .entry))) (namesOf 0 255 (entriesIn (now (list .entry)))) (now (marks .exit)) ⌝ }
+    ensures { λ _. ⌜ Marked (entriesIn (now (stores .entry))) (allNames (entriesIn (now (list .entry)))) (now (marks .exit)) ⌝ }
 {
     let count = count_of(list);
     let mut k = 0;
@@ -74,8 +74,8 @@ pub fn is_confirmed(
     slots: &[u8; 512],
     marks: &[u8; 64],
 ) -> bool
-    requires { ⌜ Laid (now stores) × (Laid (now list) × (Indexed (now stores) (countIn (now stores)) (now starts) (now slots) × Marked (entriesIn (now stores)) (namesOf 0 255 (entriesIn (now list))) (now marks))) ⌝ }
-    ensures { λ r. ⌜ r ≡ has (now (name .entry)) (namesOf 0 255 (entriesIn (now (list .entry)))) ⌝ }
+    requires { ⌜ Laid (now stores) × (Laid (now list) × (Indexed (now stores) (countIn (now stores)) (now starts) (now slots) × Marked (entriesIn (now stores)) (allNames (entriesIn (now list))) (now marks))) ⌝ }
+    ensures { λ r. ⌜ r ≡ has (now (name .entry)) (allNames (entriesIn (now (list .entry)))) ⌝ }
 {
     match find(name, stores, starts, slots) {
         Found::At(k) => 1 <= marks[k],

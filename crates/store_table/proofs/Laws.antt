@@ -1,4 +1,3 @@
-pub mod AllNamesLaws
 pub mod BlankLaws
 pub mod EntriesLaws
 pub mod EntryLaws

@@ -1,10 +1,9 @@
 -- Store tables and confirmed lists, as document 01's 'Stores and confirmed lists' lays them down. Assumes nothing.
 use Prim.Native.Nat.{ℕ, suc, _+_, _*_, _≤_}
 use mathlib.Core.Bool.{Bool, true, cond, _&&_}
-use mathlib.Core.List.{List, [], _∷_}
+use mathlib.Core.List.{List, [], _∷_, map}
 use lib.Dec.{eqb, leb}
 use lib.ListN.{length, take, drop}
-use Rattle.ascii.specs.Letters.{within}
 use Rattle.little_endian.specs.Bytes.{leAt}
 use Rattle.slices.specs.Text.{allAscii}
 use Rattle.store_table.specs.Names.{has}
@@ -82,10 +81,14 @@ isList = wellMade readWrite
 unfoldable pub isReadable : ℕ → Bool
 isReadable mode = leb mode readOnly
 
--- the names of the entries whose mode is from lo up to hi
-unfoldable pub namesOf : ℕ → ℕ → List Entry → List (List ℕ)
-namesOf lo hi [] = []
-namesOf lo hi (e ∷ es) = cond (within lo hi (e .mode)) (e .name ∷ namesOf lo hi es) (namesOf lo hi es)
+-- the names of entries, whatever their modes
+unfoldable pub allNames : List Entry → List (List ℕ)
+allNames es = map (λ e. e .name) es
+
+-- the names of the write-only stores
+unfoldable pub writeOnlyNames : List Entry → List (List ℕ)
+writeOnlyNames [] = []
+writeOnlyNames (e ∷ es) = let ns = writeOnlyNames es in cond (eqb (e .mode) writeOnly) (e .name ∷ ns) ns
 
 -- how many readable stores are confirmed
 unfoldable pub readyCount : List Entry → List (List ℕ) → ℕ

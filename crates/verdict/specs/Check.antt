@@ -10,7 +10,7 @@ use Rattle.rules.specs.Rule.{Leaf, named, olderThan, readable, Rule, leaf, node
 use Rattle.image.specs.Decode.{decode}
 use Rattle.grammar.specs.Reading.{Read, rule, refused, readOf}
 use Rattle.store_table.specs.Names.{has}
-use Rattle.store_table.specs.Stores.{Entry, isTable, entriesIn, namesOf, twinOf, unlessTwin}
+use Rattle.store_table.specs.Stores.{Entry, isTable, entriesIn, allNames, writeOnlyNames, twinOf, unlessTwin}
 use Rattle.evaluate.specs.Evict.{worldOf, evict}
 use Rattle.verdict.specs.declared.Unknown.{Unknown}
 use Rattle.verdict.specs.declared.Unknown.the-variants.{No, At}
@@ -21,7 +21,7 @@ use Rattle.verdict.specs.declared.Verdict.the-variants.{Pass, Refused}
 
 -- a leaf names a store not in the table
 unfoldable pub isUnknown : List Entry → Leaf → Bool
-isUnknown stores (named w) = not (has w (namesOf 0 2 stores))
+isUnknown stores (named w) = not (has w (allNames stores))
 isUnknown stores (olderThan d) = false
 isUnknown stores (readable k) = false
 
@@ -46,10 +46,6 @@ unfoldable mutual
 -- "The largest age is 2^64 - 1."
 abbrev pub oldest : ℕ
 oldest = 2 ^ 64 - 1
-
--- the names of the write-only stores
-abbrev pub writeOnlyNames : List Entry → List (List ℕ)
-writeOnlyNames stores = namesOf 2 2 stores
 
 -- "21 (largest age, nothing confirmed)"
 abbrev pub bare : Rule → List Entry → Bool

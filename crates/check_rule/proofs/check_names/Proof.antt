@@ -9,9 +9,9 @@ use Rattle.evaluate.proofs.Laws.ByLaws.{by-says}
 use Rattle.rules.specs.Rule.{Rule, size}
 use Rattle.image.specs.Decode.{cellAt}
 use Rattle.image.specs.Inner.Standing.{Stands}
-use Rattle.store_table.specs.Stores.{entriesIn}
+use Rattle.store_table.specs.Stores.{entriesIn, writeOnlyNames}
 use Rattle.evaluate.specs.Evict.{worldOf, evict}
-use Rattle.verdict.specs.Check.{oldest, writeOnlyNames, bare}
+use Rattle.verdict.specs.Check.{oldest, bare}
 use Rattle.verdict.proofs.Laws.CheckLaws.{refused-20, refused-21, refused-22, passed}
 use Rattle.check_rule.proofs.check_names.Statement.{statement}
 use Rattle.check_rule.proofs.check_names.Tie as tie

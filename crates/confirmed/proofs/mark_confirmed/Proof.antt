@@ -5,7 +5,7 @@ use native.Mathlib.Omega.{arith}
 use borrow.Author.Needs.{needs}
 use lib.ListN.{length, take}
 use lib.Seq.{take-all}
-use Rattle.store_table.specs.Stores.{entriesIn, namesOf}
+use Rattle.store_table.specs.Stores.{entriesIn, allNames}
 use Rattle.store_table.proofs.Laws.WalkLaws.{length-entries, standing-start, standing-within, standing-next, standing-here}
 use Rattle.store_table.specs.Inner.Index.{Marked, Standing}
 use Rattle.store_table.proofs.Laws.MarkLaws.{marked-start, marked-found, marked-none}
@@ -13,7 +13,7 @@ use Rattle.confirmed.proofs.mark_confirmed.Statement.{statement}
 use Rattle.confirmed.proofs.mark_confirmed.Tie as tie
 
 abbrev Inv-loop : tie.InvT-loop
-Inv-loop stores list starts slots marks₀ count k₀ at₀ marks k at = Standing list count k at × Marked (entriesIn stores) (namesOf 0 255 (take k (entriesIn list))) marks
+Inv-loop stores list starts slots marks₀ count k₀ at₀ marks k at = Standing list count k at × Marked (entriesIn stores) (allNames (take k (entriesIn list))) marks
 
 abbrev μ-loop : tie.MeasureT-loop
 μ-loop stores list starts slots marks₀ count k₀ at₀ marks k at = count - k
@@ -89,7 +89,6 @@ loop-again c =
     let l = w .before .before .before .loop in
     let lt = w .before .before .loop-test .taken in
     let e = standing-here (l .inv .0) lt (w .wide .ensures .0) in
-    let low = w .before .shared-slice-known3 .given (4 + l .k) in
     let known = w .before .before .before .before .before .before in
     let s = known .before in
     let f = c .before .find .ensures in (
@@ -97,10 +96,10 @@ loop-again c =
       ⊎-elim
           (λ u.
           let g = f .there _ (u .1 .given .1) in
-          rw (u .5, u .4 .ensures) (marked-found (s .args .stores .now) (entriesIn (s .args .list .now)) (l .k) (l .marks) (l .inv .1) e (omega arith) (s .pre .1 .1 .0) _ (g .1 .1 .0) (g .1 .1 .1) (omega (arith, u .3 .given .0 .1, g .0))))
+          rw (u .5, u .4 .ensures) (marked-found (s .args .stores .now) (entriesIn (s .args .list .now)) (l .k) (l .marks) (l .inv .1) e (s .pre .1 .1 .0) _ (g .1 .1 .0) (g .1 .1 .1) (omega (arith, u .3 .given .0 .1, g .0))))
           (λ u.
           rw (u .2)
-          (marked-none (s .args .stores .now) (entriesIn (s .args .list .now)) (l .k) (l .marks) (l .inv .1) e (omega arith) (s .pre .0) (λ i. omega (arith, known .shared-slice-known .given i)) (f .missing (u .1 .given .1))))
+          (marked-none (s .args .stores .now) (entriesIn (s .args .list .now)) (l .k) (l .marks) (l .inv .1) e (s .pre .0) (f .missing (u .1 .given .1))))
           (c .match .came),
     )
 

@@ -13,10 +13,9 @@ use Rattle.slices.proofs.Laws.WrittenLaws.{put-none, put-behind, put-length}
 use Rattle.slices.proofs.Laws.SearchLaws.{is-below, is-above}
 use Rattle.refusals.specs.declared.Refusal.{Refusal}
 use Rattle.lines.proofs.Laws.LinesLaws.{shown-length}
-use Rattle.store_table.specs.Stores.{Entry, writeOnly, Laid, countIn, entriesIn, namesOf}
+use Rattle.store_table.specs.Stores.{Entry, writeOnly, Laid, countIn, entriesIn, writeOnlyNames}
 use Rattle.store_table.specs.Inner.Index.{Standing}
 use Rattle.store_table.proofs.Laws.WalkLaws.{length-entries, standing-start, standing-next, standing-here, entryAt}
-use Rattle.verdict.specs.Check.{writeOnlyNames}
 use Rattle.details.specs.Report.{confirmedLine, confirmedLines, detail}
 use Rattle.details.proofs.Laws.ShortLaws.{lines-short}
 
@@ -50,7 +49,7 @@ module _ {s a b : List ℕ} {at count k start end : ℕ} (h : Named s a b at cou
   named-length = put-length (omega (arith, simp length-append at (ap length (h .rest)), lines-short s (h .stands .laid))) (h .put)
 
   pub named-end : count ≤ k → Put a b at end (confirmedLines (writeOnlyNames (entriesIn s)))
-  unfolding confirmedLines namesOf
+  unfolding confirmedLines writeOnlyNames
   named-end le =
       let l : length (entriesIn s) ≤ k = omega (arith, length-entries s (h .stands .laid)) in
       let e = rw (drop-of-length-le (entriesIn s) l, append-nil) at (h .rest) in
@@ -59,19 +58,19 @@ module _ {s a b : List ℕ} {at count k start end : ℕ} (h : Named s a b at cou
   -- one store more, of a name of this length
   module _ (lt : k < count) {len : ℕ} (e : len ≡ getD s (4 + count + k) 0) where
     pub named-no : (getD s (4 + k) 0 ≡ writeOnly → ⊥) → Named s a b at count (k + 1) (start + len) end
-    unfolding namesOf
+    unfolding writeOnlyNames
     named-no n =
         record {
           stands = standing-next (h .stands) lt e;
           done = h .done;
           put = h .put;
-          rest = rw (standing-here (h .stands) lt e, outside 2 2 (getD s (4 + k) 0) (λ p q. n (omega arith))) at (h .rest);
+          rest = rw (standing-here (h .stands) lt e, ne-eqb (getD s (4 + k) 0) writeOnly n) at (h .rest);
         }
 
     -- that is write-only
     module _ (y : getD s (4 + k) 0 ≡ writeOnly) where
       rest-yes : h .done ++ (confirmedLine (entryAt s k start len .name) ++ confirmedLines (writeOnlyNames (drop (k + 1) (entriesIn s)))) ≡ confirmedLines (writeOnlyNames (entriesIn s))
-      unfolding namesOf confirmedLines
+      unfolding writeOnlyNames confirmedLines
       rest-yes = rw (standing-here (h .stands) lt e, y) at (h .rest)
 
       pub named-room : end + length (entryAt s k start len .name) + 12 ≤ length b

@@ -55,7 +55,7 @@ returns : tie.Need-returns Inv-loop μ-loop
 returns c =
     let s = c .before .before .before .before .before .before .before .before .before .before .before in
     let d = c .before .before .before .before .before .node-at in
-    let none = found-none 2 _ (s .pre .1 .1 .0 .table) (c .before .before .find .ensures) (c .enum-told .given .1) (omega arith) in (
+    let none = found-none _ _ (s .pre .1 .1 .0 .table) (c .before .before .find .ensures) (c .enum-told .given .1) in (
       λ r z st. first-here _ _ _ (c .before .before .before .before .before .before .before .loop .inv .2) r z st (name-says _ _ _ _ (d .ensures) (c .before .before .before .before .if1 .taken) (c .before .before .before .name-of .ensures) none) (omega arith),
       λ e. absurd (let z : _≡_ {A = ℕ} 0 1 = cc in omega arith),
     )
@@ -64,7 +64,7 @@ returns c =
 the-mode : (c : tie.After-known-told Inv-loop μ-loop) → 4 + c .before .k .given .0 .0 < length (c .before .before .before .before .before .before .before .before .before .before .before .before .args .stores .now)
 the-mode c =
     let s = c .before .before .before .before .before .before .before .before .before .before .before .before in
-    found-at 2 _ (s .pre .1 .1 .0 .table) (c .before .before .before .find .ensures) (s .pre .1 .1 .1) (c .before .k .given .1) .inside
+    found-at _ _ (s .pre .1 .1 .0 .table) (c .before .before .before .find .ensures) (s .pre .1 .1 .1) (c .before .k .given .1) .inside
 
 add-name-grade : tie.Need-add-name-grade Inv-loop μ-loop
 add-name-grade c = omega (arith, the-mode c)
@@ -98,7 +98,7 @@ loop-again c =
     let room : l .i < length (l .grades) = omega arith in
     ⊎-elim
     (λ v.
-    let f = found-at 2 _ (s .pre .1 .1 .0 .table) (v .2 .ensures) (s .pre .1 .1 .1) (v .4 .given .1) in (
+    let f = found-at _ _ (s .pre .1 .1 .0 .table) (v .2 .ensures) (s .pre .1 .1 .1) (v .4 .given .1) in (
       omega arith,
       rw (v .8) (simp length-set (l .inv .1)),
       none-next _ _ _ (l .inv .2) (name-says _ _ _ _ (d .ensures) (v .0 .taken) (v .1 .ensures) (f .known)),

@@ -6,7 +6,7 @@ use native.Mathlib.Omega.{arith}
 use borrow.Author.Needs.{needs}
 use lib.ListN.{take}
 use Rattle.store_table.specs.Names.{has}
-use Rattle.store_table.specs.Stores.{entriesIn, namesOf}
+use Rattle.store_table.specs.Stores.{entriesIn, allNames}
 use Rattle.store_table.proofs.Laws.NamesLaws.{has-next}
 use Rattle.store_table.proofs.Laws.IndexLaws.{finds-none, finds-at}
 use Rattle.store_table.specs.Inner.Index.{Standing}
@@ -15,7 +15,7 @@ use Rattle.lookup.proofs.position.Statement.{statement}
 use Rattle.lookup.proofs.position.Tie as tie
 
 abbrev Inv-loop : tie.InvT-loop
-Inv-loop name s first count k₀ at₀ k at = Standing s count k at × (k ≤ first) × (has name (namesOf 0 255 (take k (entriesIn s))) ≡ false)
+Inv-loop name s first count k₀ at₀ k at = Standing s count k at × (k ≤ first) × (has name (allNames (take k (entriesIn s))) ≡ false)
 
 abbrev μ-loop : tie.MeasureT-loop
 μ-loop name s first count k₀ at₀ k at = first - k
@@ -30,7 +30,7 @@ add-at : tie.Need-add-at Inv-loop μ-loop
 add-at c = omega arith
 
 loop-holds : tie.Need-loop-holds Inv-loop μ-loop
-unfolding has namesOf
+unfolding has allNames
 loop-holds c = (standing-start _ _ (c .before .before .before .pre .0) (c .count-of .ensures .0), omega arith, refl)
 
 add-wide : tie.Need-add-wide Inv-loop μ-loop
@@ -84,7 +84,7 @@ loop-again c =
     let e = standing-here (l .inv .0) (omega arith) (w .wide .ensures .0) in (
       standing-next (l .inv .0) (omega arith) (w .wide .ensures .0),
       omega arith,
-      has-next _ (l .k) e (omega (arith, w .before .shared-slice-known3 .given (4 + l .k))) _ ∙ rw (← c .before .same-name .ensures, c .if1 .left, l .inv .2),
+      has-next _ (l .k) e _ ∙ rw (← c .before .same-name .ensures, c .if1 .left, l .inv .2),
     )
 
 returns-2 : tie.Need-returns-2 Inv-loop μ-loop

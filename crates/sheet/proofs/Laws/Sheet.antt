@@ -24,7 +24,7 @@ use Rattle.grammar.specs.Grammar.{after, firstPlace, dueIn, olderThanHead, read
 use Rattle.grammar.specs.Reading.{Read, rule, refused, parseOf, readOf}
 use Rattle.little_endian.specs.Bytes.{leAt}
 use Rattle.store_table.specs.Names.{has}
-use Rattle.store_table.specs.Stores.{sum, allAtMost, wellMade, entriesIn, isReadable, namesOf, readyCount, twinOf}
+use Rattle.store_table.specs.Stores.{sum, allAtMost, wellMade, entriesIn, isReadable, allNames, writeOnlyNames, readyCount, twinOf}
 use Rattle.evaluate.specs.Evict.{evict}
 use Rattle.duration_text.specs.DurationText.{durationText}
 use Rattle.print_text.specs.Print.{textOf}
@@ -322,7 +322,7 @@ rows =
 
 -- by computation, over all rows at once
 rows-computed : map answerOf rows ≡ map expected rows
-unfolding answerOf expected run runEnd part lower equalBy classOf ofClass other doubled quotedTo quotedAt bareTo bareAt tokenOf startAt tokenAt nextOf tokensBy tokensFrom scanOf countOf durationOf ascii placeOf size after firstPlace dueIn olderThanHead readableHead atLeastHead functionOf bareLeaf headIn leftRules chain orIn parseOf readOf leAt allAscii has sum allAtMost wellMade entriesIn isReadable namesOf readyCount twinOf evict unknownIn checkRule judgeOf durationText textOf ended behindLast rowOf digitsOf encode meaning nodeAt cellAt shownAll markedLine tableOf split storesIn confirmedLines detail judgedText reportOf
+unfolding answerOf expected run runEnd part lower equalBy classOf ofClass other doubled quotedTo quotedAt bareTo bareAt tokenOf startAt tokenAt nextOf tokensBy tokensFrom scanOf countOf durationOf ascii placeOf size after firstPlace dueIn olderThanHead readableHead atLeastHead functionOf bareLeaf headIn leftRules chain orIn parseOf readOf leAt allAscii has sum allAtMost wellMade entriesIn isReadable allNames writeOnlyNames readyCount twinOf evict unknownIn checkRule judgeOf durationText textOf ended behindLast rowOf digitsOf encode meaning nodeAt cellAt shownAll markedLine tableOf split storesIn confirmedLines detail judgedText reportOf
 rows-computed = refl
 
 -- each row holds

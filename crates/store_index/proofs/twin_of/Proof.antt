@@ -81,7 +81,7 @@ returns c =
     let l = w .before .before .before .loop in
     let e = standing-here (l .inv .0) (w .before .before .loop-test .taken) (w .wide .ensures .0) in
     let f = c .before .before .find-by .ensures .there _ (c .enum-told .given .1) in
-    (seen-yes (l .inv .1) e (rw (same-eq _ _ (f .1 .1 .1)) (has-at _ (λ i. omega (arith, w .before .shared-slice-known2 .given i)) _ _ (f .0) (f .1 .1 .0))), λ z. absurd (let o : _≡_ {A = ℕ} 0 1 = cc in omega arith))
+    (seen-yes (l .inv .1) e (rw (same-eq _ _ (f .1 .1 .1)) (has-at _ _ _ (f .0) (f .1 .1 .0))), λ z. absurd (let o : _≡_ {A = ℕ} 0 1 = cc in omega arith))
 
 enum-told-2 : tie.Need-enum-told-2 Inv-loop μ-loop
 enum-told-2 c = search needs
@@ -106,12 +106,11 @@ loop-again c =
     let l = w .before .before .before .loop in
     let lt = w .before .before .loop-test .taken in
     let e = standing-here (l .inv .0) lt (w .wide .ensures .0) in
-    let low = w .before .shared-slice-known2 .given (4 + l .k) in
     let h = c .before .before .before .before .before .before .before .before in
     let f = c .before .before .before .before .before .find-by .ensures .missing (c .before .before .before .enum-told2 .given .1) in (
       standing-next (l .inv .0) lt (w .wide .ensures .0),
-      seen-no (l .inv .1) e f (omega arith),
-      rw (c .enter .ensures .0, c .enter .ensures .1) (indexed-next (l .inv .2) (l .inv .0) e (omega arith) (h .hash-of .ensures .0) (omega (arith, c .before .before .enter-arg .given .0 .1)) (omega (arith, c .before .enter-arg2 .given .0 .1))),
+      seen-no (l .inv .1) e f,
+      rw (c .enter .ensures .0, c .enter .ensures .1) (indexed-next (l .inv .2) (l .inv .0) e (h .hash-of .ensures .0) (omega (arith, c .before .before .enter-arg .given .0 .1)) (omega (arith, c .before .enter-arg2 .given .0 .1))),
       omega arith,
       omega arith,
     )

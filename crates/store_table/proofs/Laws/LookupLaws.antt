@@ -2,16 +2,15 @@
 use mathlib.Core.Path.{_≡_, refl, sym, _∙_}
 use mathlib.Core.Bool.{true, false}
 use mathlib.Core.List.{List, _∷_, List·Memᴰ, Memᴰ·cast}
-use Prim.Native.Nat.{ℕ, _+_, _≤_, _<_}
+use Prim.Native.Nat.{ℕ, _+_, _<_}
 use native.Mathlib.Omega.{arith}
 use lib.ListN.{length, drop, getD}
 use Rattle.store_table.specs.Names.{has}
-use Rattle.store_table.specs.Stores.{Entry, countIn, entriesIn, wellMade, namesOf}
+use Rattle.store_table.specs.Stores.{Entry, countIn, entriesIn, wellMade, allNames}
 use Rattle.store_table.proofs.Laws.StoresLaws.{well-made-laid}
 use Rattle.store_table.proofs.Laws.MemberLaws.{same-eq, mem-has}
 use Rattle.store_table.proofs.Laws.WalkLaws.{entries-all, entryAt, standing-here}
-use Rattle.store_table.proofs.Laws.EntryLaws.{at-mem, entry-mode, entry-named}
-use Rattle.store_table.proofs.Laws.AllNamesLaws.{all-names}
+use Rattle.store_table.proofs.Laws.EntryLaws.{at-mem, entry-named}
 use Rattle.store_table.specs.Inner.Index.{EntryAt, Finds, Indexed, Standing}
 use Rattle.store_table.specs.declared.Found.{Found}
 use Rattle.store_table.specs.declared.Found.the-variants.{No, At}
@@ -23,19 +22,19 @@ entry-at-mode {s} {count} {k} {at} {x} h lt e =
     cc
 
 -- a name w is that of the entry that was found
-pub record FoundAt (most : ℕ) (s w : List ℕ) (k : ℕ) : Type 0 where
+pub record FoundAt (s w : List ℕ) (k : ℕ) : Type 0 where
   pub entry : Entry
   pub here : List·Memᴰ entry (entriesIn s)
   pub named : w ≡ entry .name
   pub inside : 4 + k < length s
   pub mode : entry .mode ≡ getD s (4 + k) 0
-  pub known : has w (namesOf 0 most (entriesIn s)) ≡ true
+  pub known : has w (allNames (entriesIn s)) ≡ true
 
 module _ (most : ℕ) (s : List ℕ) {w : List ℕ} {r : Found} (made : wellMade most s ≡ true) (finds : Finds w (entriesIn s) (countIn s) r) where
-  pub found-none : r ≡ No → most ≤ 255 → has w (namesOf 0 most (entriesIn s)) ≡ false
-  found-none e le = rw (entries-all s (countIn s) (well-made-laid most s made) refl, all-names most s made le) at (finds .missing e)
+  pub found-none : r ≡ No → has w (allNames (entriesIn s)) ≡ false
+  found-none e = rw (entries-all s (countIn s) (well-made-laid most s made) refl) at (finds .missing e)
 
-  pub found-at : {starts slots : List ℕ} {k : ℕ} → Indexed s (countIn s) starts slots → r ≡ At k → FoundAt most s w k
+  pub found-at : {starts slots : List ℕ} {k : ℕ} → Indexed s (countIn s) starts slots → r ≡ At k → FoundAt s w k
   found-at {k = k} indexed e =
       let (lt, (x, (at, same))) = finds .there k e in
       let m = at-mem (entriesIn s) k at in
@@ -46,5 +45,5 @@ module _ (most : ℕ) (s : List ℕ) {w : List ℕ} {r : Found} (made : wellMade
         named = n;
         inside = omega (arith, well-made-laid most s made .arrays);
         mode = entry-at-mode (indexed .begins k lt) lt at;
-        known = mem-has (Memᴰ·cast n (entry-named 0 most x (entriesIn s) m (omega arith) (entry-mode most s made x m)));
+        known = mem-has (Memᴰ·cast n (entry-named x (entriesIn s) m));
       }

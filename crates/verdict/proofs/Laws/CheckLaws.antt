@@ -20,13 +20,13 @@ use Rattle.grammar.proofs.Laws.FitsLaws.{read-decodes}
 use Rattle.read.specs.Outcome.{Outcome, outcome, readingOf}
 use Rattle.read.specs.declared.Reading.{Reading}
 use Rattle.read.specs.declared.Reading.the-variants.{Read as Written}
-use Rattle.store_table.specs.Stores.{Entry, isTable, countIn, entriesIn, twinOf}
+use Rattle.store_table.specs.Stores.{Entry, isTable, countIn, entriesIn, writeOnlyNames, twinOf}
 use Rattle.store_table.proofs.Laws.StoresLaws.{well-made-laid}
 use Rattle.store_table.proofs.Laws.WalkLaws.{length-entries}
 use Rattle.store_table.specs.declared.Twin.the-variants.{No as Lone, At as Twinned}
 use Rattle.evaluate.specs.Evict.{worldOf, evict}
 use Rattle.image.proofs.Laws.InsideLaws.{decode-whole}
-use Rattle.verdict.specs.Check.{oldest, writeOnlyNames, bare, archived, verdict, unknownIn, checkStores, checkRule, checkOf}
+use Rattle.verdict.specs.Check.{oldest, bare, archived, verdict, unknownIn, checkStores, checkRule, checkOf}
 use Rattle.verdict.specs.declared.Unknown.{Unknown}
 use Rattle.verdict.specs.declared.Unknown.the-variants.{No, At}
 use Rattle.verdict.specs.declared.Verdict.{Verdict}

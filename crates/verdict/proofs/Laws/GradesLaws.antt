@@ -12,14 +12,14 @@ use Rattle.slices.proofs.Laws.WrittenLaws.{after-set}
 use Rattle.rules.specs.Rule.{Leaf}
 use Rattle.image.specs.Decode.{aLeaf, meaning, cellAt}
 use Rattle.store_table.specs.Names.{has}
-use Rattle.store_table.specs.Stores.{Entry, readOnly, writeOnly, isReadable, readyCount, twinOf}
+use Rattle.store_table.specs.Stores.{Entry, readOnly, writeOnly, isReadable, writeOnlyNames, readyCount, twinOf}
 use Rattle.store_table.proofs.Laws.MemberLaws.{has-mem, mem-has}
-use Rattle.store_table.proofs.Laws.EntryLaws.{name-entry, entry-named, one-of-name, ready-or-none}
+use Rattle.store_table.proofs.Laws.EntryLaws.{write-only-entry, entry-write-only, one-of-name, ready-or-none}
 use Rattle.store_table.specs.declared.Twin.the-variants.{No as Lone}
 use Rattle.evaluate.specs.Evict.{World, worldOf, leafSays}
 use Rattle.evaluate.proofs.Laws.MeaningLaws.{says-named, says-older, says-readable}
 use Rattle.evaluate.proofs.Laws.MonotoneLaws.{both-ways}
-use Rattle.verdict.specs.Check.{oldest, writeOnlyNames}
+use Rattle.verdict.specs.Check.{oldest}
 use Rattle.verdict.specs.Inner.Grades.{nameGrade, Graded, GradedUpTo}
 
 -- a leaf that says the same of both
@@ -40,14 +40,13 @@ module _ (es : List Entry) (lone : twinOf es ≡ Lone) where
     where
       to : has (x .name) (writeOnlyNames es) ≡ true → eqb (x .mode) writeOnly ≡ true
       to h =
-          let (y, k, low, high, p) = name-entry 2 2 (x .name) es (has-mem (x .name) (writeOnlyNames es) h) in
+          let (y, k, only, p) = write-only-entry (x .name) es (has-mem (x .name) (writeOnlyNames es) h) in
           let same : x .mode ≡ y .mode = ap (λ (z : Entry). z .mode) (one-of-name es lone x y m k (sym p)) in
           eq-eqb (x .mode) writeOnly (omega arith)
 
       from : eqb (x .mode) writeOnly ≡ true → has (x .name) (writeOnlyNames es) ≡ true
       from e =
-          let only : x .mode ≡ writeOnly = eqb-true (x .mode) writeOnly e in
-          mem-has (entry-named 2 2 x es m (omega arith) (omega arith))
+          mem-has (entry-write-only x es m (eqb-true (x .mode) writeOnly e))
 
   -- so a readable store's is not
   pub write-only-unready : (x : Entry) → List·Memᴰ x es → isReadable (x .mode) ≡ true → has (x .name) (writeOnlyNames es) ≡ true → ⊥

@@ -10,13 +10,13 @@ use borrow.Author.Tests.{leb-false}
 use Rattle.refusals.specs.Refusals.{refusal, unknownStore, unconfirmed, archiveOnly}
 use Rattle.rules.specs.Rule.{Rule}
 use Rattle.store_table.specs.Names.{has}
-use Rattle.store_table.specs.Stores.{readOnly, writeOnly, isReadable, entriesIn, namesOf}
+use Rattle.store_table.specs.Stores.{readOnly, writeOnly, isReadable, entriesIn, allNames, writeOnlyNames}
 use Rattle.store_table.proofs.Laws.MemberLaws.{has-mem, mem-has}
 use Rattle.store_table.proofs.Laws.EntryLaws.{entry-mode, name-entry, entry-named, OneReady, NoneReady, ready-or-none}
 use Rattle.evaluate.specs.Evict.{worldOf, evict}
 use Rattle.decide.specs.Decide.{listNames}
 use Rattle.evaluate.proofs.Laws.MonotoneLaws.{evict-up}
-use Rattle.verdict.specs.Check.{unknownIn, oldest, writeOnlyNames, bare, archived, verdict, checkRule}
+use Rattle.verdict.specs.Check.{unknownIn, oldest, bare, archived, verdict, checkRule}
 use Rattle.verdict.specs.Guarantee.{Table, Named, Nothing, JustWriteOnly, Known, Evicts, ReadableOn, Safe, Guarantee}
 use Rattle.verdict.proofs.Laws.CheckLaws.{archived-by, by-tests}
 use Rattle.verdict.proofs.Laws.GradesLaws.{write-only-unready}
@@ -72,12 +72,12 @@ module _ {s : List ℕ} (t : Table s) (r : Rule) where
   known-no : Known r s → unknownIn (entriesIn s) r 0 ≡ No
   known-no k = no-unknown (entriesIn s) r 0 (λ w m. stored w (k w m))
     where
-      stored : (w : List ℕ) → Named w s → has w (namesOf 0 2 (entriesIn s)) ≡ true
-      stored w (e, m, p) = rw p at (mem-has (entry-named 0 2 e (entriesIn s) m (omega arith) (entry-mode _ s (t .made) e m)))
+      stored : (w : List ℕ) → Named w s → has w (allNames (entriesIn s)) ≡ true
+      stored w (e, m, p) = rw p at (mem-has (entry-named e (entriesIn s) m))
 
   no-known : unknownIn (entriesIn s) r 0 ≡ No → Known r s
   no-known e w m =
-      let (x, at, low, high, p) = name-entry 0 2 w (entriesIn s) (has-mem w (namesOf 0 2 (entriesIn s)) (unknown-no (entriesIn s) r 0 e w m)) in
+      let (x, at, p) = name-entry w (entriesIn s) (has-mem w (allNames (entriesIn s)) (unknown-no (entriesIn s) r 0 e w m)) in
       (x, at, p)
 
   -- what says evict with no readable store on the list says so at the largest age with just the write-only stores confirmed

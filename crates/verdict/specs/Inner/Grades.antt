@@ -7,10 +7,10 @@ use lib.Dec.{eqb, leb}
 use lib.ListN.{getD}
 use Rattle.rules.specs.Rule.{Leaf}
 use Rattle.image.specs.Decode.{aLeaf, cellAt}
-use Rattle.store_table.specs.Stores.{Entry, writeOnly, isTable, countIn, entriesIn, twinOf}
+use Rattle.store_table.specs.Stores.{Entry, writeOnly, isTable, countIn, entriesIn, writeOnlyNames, twinOf}
 use Rattle.store_table.specs.declared.Twin.the-variants.{No}
 use Rattle.evaluate.specs.Evict.{worldOf, leafSays}
-use Rattle.verdict.specs.Check.{oldest, writeOnlyNames}
+use Rattle.verdict.specs.Check.{oldest}
 
 -- the grade of a store's name, by the store's mode
 abbrev pub nameGrade : ℕ → ℕ
