@@ -12,7 +12,9 @@ use store_table::Found;
 use store_table::Twin;
 use store_table::count_of;
 use store_table::is_readable;
-use store_table::wide;
+use store_table::length_at;
+use store_table::mode_at;
+use store_table::names_start;
 
 // Marks a store.
 fn mark(marks: &mut [u8], i: usize)
@@ -35,9 +37,9 @@ pub fn mark_confirmed(
 {
     let count = count_of(list);
     let mut k = 0;
-    let mut at = 4 + 2 * count;
+    let mut at = names_start(count);
     while k < count {
-        let len = wide(list[4 + count + k]);
+        let len = length_at(list, count, k);
         if let Found::At(i) = find(&list[at..at + len], stores, starts, slots) {
             mark(marks, i);
         }
@@ -55,7 +57,7 @@ pub fn ready_count(stores: &[u8], marks: &[u8; 64]) -> u64
     let mut k = 0;
     let mut ready: u64 = 0;
     while k < count {
-        if is_readable(stores[4 + k]) {
+        if is_readable(mode_at(stores, k)) {
             if 1 <= marks[k] {
                 ready += 1;
             }

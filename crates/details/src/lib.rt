@@ -20,7 +20,9 @@ use slices::append;
 use slices::behind_last;
 use store_table::WRITE_ONLY;
 use store_table::count_of;
-use store_table::wide;
+use store_table::length_at;
+use store_table::mode_at;
+use store_table::names_start;
 use verdict::OLDEST;
 
 // The line of a text in which a place stands, marked there, or behind the text's last visible byte.
@@ -85,11 +87,11 @@ fn append_write_only(page: &mut [u8], at: usize, stores: &[u8]) -> usize
 {
     let count = count_of(stores);
     let mut k = 0;
-    let mut start = 4 + 2 * count;
+    let mut start = names_start(count);
     let mut end = at;
     while k < count {
-        let len = wide(stores[4 + count + k]);
-        if stores[4 + k] == WRITE_ONLY {
+        let len = length_at(stores, count, k);
+        if mode_at(stores, k) == WRITE_ONLY {
             end = append_confirmed(page, end, &stores[start..start + len]);
         }
         start += len;

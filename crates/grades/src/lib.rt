@@ -18,6 +18,7 @@ use lookup::find;
 use store_table::Found;
 use store_table::Twin;
 use store_table::WRITE_ONLY;
+use store_table::mode_at;
 use verdict::OLDEST;
 use verdict::Unknown;
 
@@ -70,7 +71,7 @@ pub fn grade_leaves(
             let Found::At(k) = find(name_of(image, n, arg), stores, starts, slots) else {
                 return Unknown::At(i);
             };
-            grades[i] = name_grade(stores[4 + k]);
+            grades[i] = name_grade(mode_at(stores, k));
         } else {
             grades[i] = test_grade(kind, arg);
         }

@@ -31,23 +31,38 @@ entriesFrom [] ls bs = []
 entriesFrom (m ∷ ms) [] bs = []
 entriesFrom (m ∷ ms) (l ∷ ls) bs = record { mode = m; name = take l bs } ∷ entriesFrom ms ls (drop l bs)
 
--- "count (2 bytes, at most 64), total (2 bytes)"
+-- where each part begins: "count (2 bytes, at most 64), total (2 bytes), then two parallel arrays of count bytes"
+abbrev pub countStart : ℕ
+countStart = 0
+
+abbrev pub totalStart : ℕ
+totalStart = 2
+
+abbrev pub modesStart : ℕ
+modesStart = 4
+
+abbrev pub lengthsStart : ℕ → ℕ
+lengthsStart count = modesStart + count
+
+abbrev pub namesStart : ℕ → ℕ
+namesStart count = modesStart + 2 * count
+
 unfoldable pub countIn : List ℕ → ℕ
 unfolding leAt
-countIn s = leAt s 0 2
+countIn s = leAt s countStart 2
 
 unfoldable pub totalIn : List ℕ → ℕ
 unfolding leAt
-totalIn s = leAt s 2 2
+totalIn s = leAt s totalStart 2
 
 abbrev pub modesIn : List ℕ → List ℕ
-modesIn s = take (countIn s) (drop 4 s)
+modesIn s = take (countIn s) (drop modesStart s)
 
 abbrev pub lengthsIn : List ℕ → List ℕ
-lengthsIn s = take (countIn s) (drop (4 + countIn s) s)
+lengthsIn s = take (countIn s) (drop (lengthsStart (countIn s)) s)
 
 abbrev pub nameBytesIn : List ℕ → List ℕ
-nameBytesIn s = drop (4 + 2 * countIn s) s
+nameBytesIn s = drop (namesStart (countIn s)) s
 
 unfoldable pub entriesIn : List ℕ → List Entry
 unfolding countIn entriesFrom
@@ -66,7 +81,7 @@ allAtMost k (m ∷ ms) = leb m k && allAtMost k ms
 unfoldable pub wellMade : ℕ → List ℕ → Bool
 unfolding countIn totalIn sum allAtMost allAscii
 wellMade most s =
-    leb 4 (length s) && leb (countIn s) 64 && eqb (length s) (4 + 2 * countIn s + totalIn s) && eqb (sum (lengthsIn s)) (totalIn s)
+    leb modesStart (length s) && leb (countIn s) 64 && eqb (length s) (namesStart (countIn s) + totalIn s) && eqb (sum (lengthsIn s)) (totalIn s)
     && allAtMost most (modesIn s) && allAscii (nameBytesIn s)
 
 -- a store table: no mode is above the last
@@ -113,6 +128,6 @@ unlessTwin refuse (At i) rest = refuse i
 
 -- a table or a list whose names lie within it
 pub record Laid (s : List ℕ) : Type 0 where
-  pub arrays : 4 + 2 * countIn s ≤ length s
-  pub names : 4 + 2 * countIn s + sum (lengthsIn s) ≤ length s
+  pub arrays : namesStart (countIn s) ≤ length s
+  pub names : namesStart (countIn s) + sum (lengthsIn s) ≤ length s
   pub few : countIn s ≤ 64

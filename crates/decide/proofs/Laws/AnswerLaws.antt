@@ -3,7 +3,6 @@ use mathlib.Core.Path.{_≡_, sym, ap, _∙_}
 use mathlib.Core.Bool.{Bool, true, false}
 use mathlib.Core.List.{List}
 use Prim.Native.Nat.{ℕ}
-use native.Mathlib.Omega.{arith}
 use Rattle.refusals.specs.Refusals.{refusal, badImage, badStoreTable, twinName, badConfirmedList}
 use Rattle.rules.specs.Rule.{Rule, size}
 use Rattle.little_endian.specs.Bytes.{leAt}

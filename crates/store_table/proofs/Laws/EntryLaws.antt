@@ -16,7 +16,7 @@ use Rattle.slices.specs.Text.{allAscii}
 use Rattle.slices.proofs.Laws.AsciiLaws.{take-ascii, drop-ascii}
 use Rattle.store_table.specs.Names.{sameName, has}
 use Rattle.store_table.proofs.Laws.MemberLaws.{mem-has}
-use Rattle.store_table.specs.Stores.{writeOnly, Entry, entriesFrom, entriesIn, countIn, modesIn, lengthsIn, nameBytesIn, allAtMost, wellMade, isReadable, allNames, writeOnlyNames, readyCount, twinFrom, twinOf}
+use Rattle.store_table.specs.Stores.{lengthsStart, writeOnly, Entry, entriesFrom, entriesIn, countIn, modesIn, lengthsIn, nameBytesIn, allAtMost, wellMade, isReadable, allNames, writeOnlyNames, readyCount, twinFrom, twinOf}
 use Rattle.store_table.proofs.Laws.StoresLaws.{made}
 use Rattle.store_table.specs.declared.Twin.{Twin}
 use Rattle.store_table.specs.declared.Twin.the-variants.{No, At}
@@ -177,4 +177,4 @@ name-from (m ∷ ms) (l ∷ ls) bs b a e (List·Memᴰ·tail k) = name-from ms l
 pub entry-name : (most : ℕ) (s : List ℕ) → AllBytes s → wellMade most s ≡ true → (e : Entry) → List·Memᴰ e (entriesIn s) → (length (e .name) ≤ 255) × (allAscii (e .name) ≡ true)
 unfolding entriesIn
 entry-name most s b h =
-    name-from (modesIn s) (lengthsIn s) (nameBytesIn s) (bytes-at s (4 + countIn s) (countIn s) b) (made most s h .ascii)
+    name-from (modesIn s) (lengthsIn s) (nameBytesIn s) (bytes-at s (lengthsStart (countIn s)) (countIn s) b) (made most s h .ascii)

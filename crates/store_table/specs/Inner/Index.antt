@@ -34,6 +34,10 @@ pub record Standing (s : List ℕ) (count k at : ℕ) : Type 0 where
   pub fills : at + sum (drop k (lengthsIn s)) ≤ length s
   pub rest : drop k (entriesIn s) ≡ entriesFrom (drop k (modesIn s)) (drop k (lengthsIn s)) (drop at s)
 
+-- the length of the name of entry k
+abbrev pub lengthAt : List ℕ → ℕ → ℕ
+lengthAt s k = getD (lengthsIn s) k 0
+
 -- entry k
 abbrev pub EntryAt : List Entry → ℕ → Entry → Type 0
 EntryAt es k x = drop k es ≡ x ∷ drop (k + 1) es
