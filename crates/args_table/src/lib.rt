@@ -12,6 +12,9 @@ use store_args::Made;
 use store_args::One;
 use store_args::given_by;
 use store_args::next_arg;
+use store_table::COUNT_START;
+use store_table::MODES_START;
+use store_table::TOTAL_START;
 
 // Puts the mode, the length of the name and the name of the store that an argument gives behind those of k stores.
 fn fill_one(
@@ -73,9 +76,9 @@ pub fn table_of(args: &[u8], table: &mut [u8]) -> Made
     match fill(args, &mut modes, &mut lengths, &mut names) {
         Filled::Wrong { index, fault } => Made::Wrong { index, fault },
         Filled::Stores { count, used } => {
-            put2(table, 0, count as u64);
-            put2(table, 2, used as u64);
-            let modes_end = append(table, 4, &modes[..count]);
+            put2(table, COUNT_START, count as u64);
+            put2(table, TOTAL_START, used as u64);
+            let modes_end = append(table, MODES_START, &modes[..count]);
             let lengths_end = append(table, modes_end, &lengths[..count]);
             Made::Table(append(table, lengths_end, &names[..used]))
         }

@@ -16,7 +16,7 @@ use grades::grade_leaves;
 use store_index::twin_of;
 use store_table::Twin;
 use store_table::count_of;
-use store_table::well_made;
+use store_table::is_table;
 use verdict::Unknown;
 use verdict::Verdict;
 use verdict::refuse;
@@ -50,7 +50,7 @@ fn check_in(image: &[u8], n: usize, stores: &[u8], grades: &mut [u8]) -> Verdict
     requires { ⌜ Inside (now image) n 0 n × (n ≤ length (now grades)) ⌝ }
     ensures { λ r. ⌜ ((ρ : Rule) → sizeOf ρ ≡ n → Stands ρ (cellAt (now (image .entry)) n) 0 → r ≡ checkRule ρ (now (stores .entry))) ⌝ }
 {
-    if !well_made(stores, 2) {
+    if !is_table(stores) {
         return refuse(refusals::BAD_STORE_TABLE, 0);
     }
     let mut starts = [0u16; 64];

@@ -3,7 +3,7 @@ ghost use mathlib.Core.Path.{_≡_};
 ghost use mathlib.Core.List.{List};
 ghost use Prim.Native.Nat.{_<_, ℕ};
 ghost use lib.ListN.{length, set};
-ghost use Rattle.store_table.specs.Stores.{Laid, countIn, entriesIn, namesOf, twinOf, readyCount};
+ghost use Rattle.store_table.specs.Stores.{Laid, countIn, entriesIn, allNames, twinOf, readyCount};
 ghost use Rattle.store_table.specs.Inner.Index.{Indexed, Blank, Marked};
 ghost use Rattle.store_table.specs.Names.{has};
 use lookup::find;
@@ -12,7 +12,9 @@ use store_table::Found;
 use store_table::Twin;
 use store_table::count_of;
 use store_table::is_readable;
-use store_table::wide;
+use store_table::length_at;
+use store_table::mode_at;
+use store_table::names_start;
 
 // Marks a store.
 fn mark(marks: &mut [u8], i: usize)
@@ -31,13 +33,13 @@ pub fn mark_confirmed(
     marks: &mut [u8; 64],
 )
     requires { ⌜ Laid (now stores) × (Laid (now list) × ((twinOf (entriesIn (now stores)) ≡ Twin.No) × (Indexed (now stores) (countIn (now stores)) (now starts) (now slots) × Blank (now marks)))) ⌝ }
-    ensures { λ _. ⌜ Marked (entriesIn (now (stores .entry))) (namesOf 0 255 (entriesIn (now (list .entry)))) (now (marks .exit)) ⌝ }
+    ensures { λ _. ⌜ Marked (entriesIn (now (stores .entry))) (allNames (entriesIn (now (list .entry)))) (now (marks .exit)) ⌝ }
 {
     let count = count_of(list);
     let mut k = 0;
-    let mut at = 4 + 2 * count;
+    let mut at = names_start(count);
     while k < count {
-        let len = wide(list[4 + count + k]);
+        let len = length_at(list, count, k);
         if let Found::At(i) = find(&list[at..at + len], stores, starts, slots) {
             mark(marks, i);
         }
@@ -55,7 +57,7 @@ pub fn ready_count(stores: &[u8], marks: &[u8; 64]) -> u64
     let mut k = 0;
     let mut ready: u64 = 0;
     while k < count {
-        if is_readable(stores[4 + k]) {
+        if is_readable(mode_at(stores, k)) {
             if 1 <= marks[k] {
                 ready += 1;
             }
@@ -74,8 +76,8 @@ pub fn is_confirmed(
     slots: &[u8; 512],
     marks: &[u8; 64],
 ) -> bool
-    requires { ⌜ Laid (now stores) × (Laid (now list) × (Indexed (now stores) (countIn (now stores)) (now starts) (now slots) × Marked (entriesIn (now stores)) (namesOf 0 255 (entriesIn (now list))) (now marks))) ⌝ }
-    ensures { λ r. ⌜ r ≡ has (now (name .entry)) (namesOf 0 255 (entriesIn (now (list .entry)))) ⌝ }
+    requires { ⌜ Laid (now stores) × (Laid (now list) × (Indexed (now stores) (countIn (now stores)) (now starts) (now slots) × Marked (entriesIn (now stores)) (allNames (entriesIn (now list))) (now marks))) ⌝ }
+    ensures { λ r. ⌜ r ≡ has (now (name .entry)) (allNames (entriesIn (now (list .entry)))) ⌝ }
 {
     match find(name, stores, starts, slots) {
         Found::At(k) => 1 <= marks[k],

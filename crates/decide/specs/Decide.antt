@@ -6,7 +6,7 @@ use mathlib.Core.Option.{Option, none, some}
 use Rattle.refusals.specs.Refusals.{refusal, badImage}
 use Rattle.rules.specs.Rule.{Rule}
 use Rattle.image.specs.Decode.{decode}
-use Rattle.store_table.specs.Stores.{entriesIn, namesOf}
+use Rattle.store_table.specs.Stores.{entriesIn, allNames}
 use Rattle.evaluate.specs.Evict.{worldOf, evict}
 use Rattle.decide.specs.Tests.{unlessDue, tableTest, twinTest, listTest}
 use Rattle.decide.specs.declared.Decision.{Decision}
@@ -18,7 +18,7 @@ saying false = Keep
 
 -- the names that a list holds
 abbrev pub listNames : List ℕ → List (List ℕ)
-listNames l = namesOf 0 0 (entriesIn l)
+listNames l = allNames (entriesIn l)
 
 -- 16, then 17, 18 and 19, then what the rule says
 abbrev pub decideRule : Option Rule → List ℕ → ℕ → List ℕ → Decision

@@ -19,7 +19,8 @@ use little_endian::le2;
 use refusals::Refusal;
 use store_index::twin_of;
 use store_table::Twin;
-use store_table::well_made;
+use store_table::is_list;
+use store_table::is_table;
 
 // What deciding answers.
 pub enum Decision {
@@ -119,7 +120,7 @@ pub fn decide(image: &[u8], stores: &[u8], age: u64, list: &[u8]) -> Decision
     if !is_image(image) {
         return refuse(refusals::BAD_IMAGE, 0);
     }
-    if !well_made(stores, 2) {
+    if !is_table(stores) {
         return refuse(refusals::BAD_STORE_TABLE, 0);
     }
     let mut starts = [0u16; 64];
@@ -127,7 +128,7 @@ pub fn decide(image: &[u8], stores: &[u8], age: u64, list: &[u8]) -> Decision
     if let Twin::At(i) = twin_of(stores, &mut starts, &mut slots) {
         return refuse(refusals::TWIN_NAME, i);
     }
-    if !well_made(list, 0) {
+    if !is_list(list) {
         return refuse(refusals::BAD_CONFIRMED_LIST, 0);
     }
     let mut marks = [0u8; 64];

@@ -13,10 +13,10 @@ use Rattle.rules.specs.Rule.{named, olderThan, readable, size}
 use Rattle.image.specs.Encode.{encode}
 use Rattle.image.specs.Decode.{Meaning, aLeaf, aJoin, nothing, cellAt}
 use Rattle.grammar.specs.Reading.{Read, rule, refused, readOf}
-use Rattle.store_table.specs.Stores.{Entry}
+use Rattle.store_table.specs.Stores.{Entry, writeOnlyNames}
 use Rattle.verdict.specs.declared.Verdict.{Verdict}
 use Rattle.verdict.specs.declared.Verdict.the-variants.{Pass, Refused}
-use Rattle.verdict.specs.Check.{oldest, writeOnly}
+use Rattle.verdict.specs.Check.{oldest}
 use Rattle.read_line.specs.Reading.{refusalLine}
 
 -- ---- the first line: `pass` or `no NUMBER PLACE`
@@ -62,7 +62,7 @@ detail text es f =
     (cond (eqb n twinName) (bytes "argument " ++ (digitsOf (suc (f .place)) ++ lineEnd))
     (cond (eqb n unknownStore) (shownAll (nodeName (readOf text) (f .place)) ++ lineEnd)
     (cond (eqb n unconfirmed) (bytes "confirmed: nothing" ++ (lineEnd ++ ageLine))
-    (cond (eqb n archiveOnly) (confirmedLines (writeOnly es) ++ ageLine)
+    (cond (eqb n archiveOnly) (confirmedLines (writeOnlyNames es) ++ ageLine)
     []))))
 
 -- ---- the lines behind the first

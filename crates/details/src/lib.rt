@@ -3,8 +3,7 @@ ghost use Prim.Native.Nat.{min, _+_, _≤_};
 ghost use lib.ListN.{length};
 ghost use Rattle.slices.specs.Written.{Put};
 ghost use Rattle.grammar.specs.Reading.{readOf};
-ghost use Rattle.store_table.specs.Stores.{Laid, entriesIn};
-ghost use Rattle.verdict.specs.Check.{writeOnly};
+ghost use Rattle.store_table.specs.Stores.{Laid, entriesIn, writeOnlyNames};
 ghost use Rattle.lines.specs.Lines.{textEnd, markedLine, shownAll};
 ghost use Rattle.details.specs.Report.{nodeName, ageLine, confirmedLine, confirmedLines, detail};
 ghost use Rattle.details.specs.Inner.Room.{Room};
@@ -19,8 +18,11 @@ use read::Reading;
 use refusals::Refusal;
 use slices::append;
 use slices::behind_last;
+use store_table::WRITE_ONLY;
 use store_table::count_of;
-use store_table::wide;
+use store_table::length_at;
+use store_table::mode_at;
+use store_table::names_start;
 use verdict::OLDEST;
 
 // The line of a text in which a place stands, marked there, or behind the text's last visible byte.
@@ -81,15 +83,15 @@ fn append_confirmed(page: &mut [u8], at: usize, name: &[u8]) -> usize
 // A line for each write-only store.
 fn append_write_only(page: &mut [u8], at: usize, stores: &[u8]) -> usize
     requires { ⌜ Laid (now stores) × (at + length (now stores) + 768 ≤ length (now page)) ⌝ }
-    ensures { λ r. ⌜ Put (now (page .entry)) (now (page .exit)) at r (confirmedLines (writeOnly (entriesIn (now (stores .entry))))) ⌝ }
+    ensures { λ r. ⌜ Put (now (page .entry)) (now (page .exit)) at r (confirmedLines (writeOnlyNames (entriesIn (now (stores .entry))))) ⌝ }
 {
     let count = count_of(stores);
     let mut k = 0;
-    let mut start = 4 + 2 * count;
+    let mut start = names_start(count);
     let mut end = at;
     while k < count {
-        let len = wide(stores[4 + count + k]);
-        if stores[4 + k] == 2 {
+        let len = length_at(stores, count, k);
+        if mode_at(stores, k) == WRITE_ONLY {
             end = append_confirmed(page, end, &stores[start..start + len]);
         }
         start += len;

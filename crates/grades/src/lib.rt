@@ -17,6 +17,8 @@ use image::node_at;
 use lookup::find;
 use store_table::Found;
 use store_table::Twin;
+use store_table::WRITE_ONLY;
+use store_table::mode_at;
 use verdict::OLDEST;
 use verdict::Unknown;
 
@@ -45,7 +47,7 @@ fn test_grade(kind: u64, arg: u64) -> u8
 fn name_grade(mode: u8) -> u8
     ensures { λ r. ⌜ r ≡ nameGrade mode ⌝ }
 {
-    if mode == 2 { 1 } else { 0 }
+    if mode == WRITE_ONLY { 1 } else { 0 }
 }
 
 // Writes the grade of each leaf of an image, up to the first node that names no store.
@@ -69,7 +71,7 @@ pub fn grade_leaves(
             let Found::At(k) = find(name_of(image, n, arg), stores, starts, slots) else {
                 return Unknown::At(i);
             };
-            grades[i] = name_grade(stores[4 + k]);
+            grades[i] = name_grade(mode_at(stores, k));
         } else {
             grades[i] = test_grade(kind, arg);
         }

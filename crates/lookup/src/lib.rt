@@ -6,6 +6,8 @@ ghost use Rattle.store_table.specs.Inner.Index.{Finds, hashOf, Indexed};
 use name_hash::hash_of;
 use store_table::Found;
 use store_table::count_of;
+use store_table::length_at;
+use store_table::names_start;
 use store_table::same_name;
 use store_table::wide;
 
@@ -16,9 +18,9 @@ pub fn position(name: &[u8], s: &[u8], first: usize) -> Found
 {
     let count = count_of(s);
     let mut k = 0;
-    let mut at = 4 + 2 * count;
+    let mut at = names_start(count);
     while k < first {
-        let len = wide(s[4 + count + k]);
+        let len = length_at(s, count, k);
         if same_name(name, &s[at..at + len]) {
             return Found::At(k);
         }
@@ -46,7 +48,7 @@ pub fn find_by(
     }
     let k = slot - 1;
     let at = starts[k] as usize;
-    let len = wide(s[4 + count_of(s) + k]);
+    let len = length_at(s, count_of(s), k);
     if same_name(name, &s[at..at + len]) {
         return Found::At(k);
     }

@@ -8,7 +8,7 @@ use lib.ListN.{length, take, drop}
 use Rattle.slices.specs.Text.{bytes, runEnd, allAscii, other}
 use Rattle.slices.specs.Search.{behindLast}
 use Rattle.ascii.specs.Letters.{within, equal}
-use Rattle.store_table.specs.Stores.{Entry}
+use Rattle.store_table.specs.Stores.{Entry, readWrite, readOnly, writeOnly}
 use Rattle.store_args.specs.declared.Fault.{Fault}
 use Rattle.store_args.specs.declared.Fault.the-variants.{NoColon, NoMode, LongName, ForeignName}
 
@@ -40,9 +40,9 @@ named mode name =
 unfoldable pub modeTested : List ℕ → List ℕ → Given
 unfolding named
 modeTested word name =
-    cond (equal word (bytes "read-write")) (named 0 name)
-    (cond (equal word (bytes "read-only")) (named 1 name)
-    (cond (equal word (bytes "write-only")) (named 2 name) (wrong NoMode)))
+    cond (equal word (bytes "read-write")) (named readWrite name)
+    (cond (equal word (bytes "read-only")) (named readOnly name)
+    (cond (equal word (bytes "write-only")) (named writeOnly name) (wrong NoMode)))
 
 -- behind the last colon of an argument, or 0 where there is none
 abbrev pub behindColon : List ℕ → ℕ

@@ -8,6 +8,9 @@ use ascii::eq;
 use slices::ascii_from;
 use slices::behind_last;
 use slices::mark_at;
+use store_table::READ_ONLY;
+use store_table::READ_WRITE;
+use store_table::WRITE_ONLY;
 
 // The bytes that any table fits in.
 pub const TABLE_BYTES: usize = 16_452;
@@ -65,13 +68,13 @@ fn mode_tested(arg: &[u8], end: usize, from: usize) -> Given
 {
     let mode = &arg[from..];
     if eq(mode, b"read-write") {
-        return name_tested(arg, end, 0);
+        return name_tested(arg, end, READ_WRITE);
     }
     if eq(mode, b"read-only") {
-        return name_tested(arg, end, 1);
+        return name_tested(arg, end, READ_ONLY);
     }
     if eq(mode, b"write-only") {
-        return name_tested(arg, end, 2);
+        return name_tested(arg, end, WRITE_ONLY);
     }
     Given::Wrong(Fault::NoMode)
 }

@@ -9,7 +9,8 @@ use name_hash::hash_of;
 use store_table::Found;
 use store_table::Twin;
 use store_table::count_of;
-use store_table::wide;
+use store_table::length_at;
+use store_table::names_start;
 
 // Puts entry k, whose name begins at `at` and has this hash, into the index.
 fn enter(starts: &mut [u16], slots: &mut [u8], k: usize, at: usize, hash: usize)
@@ -27,9 +28,9 @@ pub fn twin_of(stores: &[u8], starts: &mut [u16; 64], slots: &mut [u8; 512]) -> 
 {
     let count = count_of(stores);
     let mut k = 0;
-    let mut at = 4 + 2 * count;
+    let mut at = names_start(count);
     while k < count {
-        let len = wide(stores[4 + count + k]);
+        let len = length_at(stores, count, k);
         let name = &stores[at..at + len];
         let hash = hash_of(name);
         if let Found::At(_) = find_by(name, hash, stores, k, starts, slots) {

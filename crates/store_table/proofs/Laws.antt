@@ -1,6 +1,5 @@
 pub mod DistinctLaws
 pub mod TwinLaws
-pub mod AllNamesLaws
 pub mod BlankLaws
 pub mod EntriesLaws
 pub mod EntryLaws

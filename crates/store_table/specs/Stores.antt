@@ -2,16 +2,25 @@
 use Prim.Native.Nat.{ℕ, suc, _+_, _*_, _≤_, _<_}
 use mathlib.Core.Path.{_≡_}
 use mathlib.Core.Bool.{Bool, true, cond, _&&_}
-use mathlib.Core.List.{List, [], _∷_}
+use mathlib.Core.List.{List, [], _∷_, map}
 use mathlib.Core.Option.{some}
 use lib.Dec.{eqb, leb}
 use lib.ListN.{length, take, drop, getElem?}
-use Rattle.ascii.specs.Letters.{within}
 use Rattle.little_endian.specs.Bytes.{leAt}
 use Rattle.slices.specs.Text.{allAscii}
 use Rattle.store_table.specs.Names.{has}
 use Rattle.store_table.specs.declared.Twin.{Twin}
 use Rattle.store_table.specs.declared.Twin.the-variants.{No, At}
+
+-- "Modes: 0 read-write, 1 read-only, 2 write-only"
+abbrev pub readWrite : ℕ
+readWrite = 0
+
+abbrev pub readOnly : ℕ
+readOnly = 1
+
+abbrev pub writeOnly : ℕ
+writeOnly = 2
 
 -- an entry of a table or a list: its mode and its name
 pub record Entry : Type 0 where
@@ -24,23 +33,38 @@ entriesFrom [] ls bs = []
 entriesFrom (m ∷ ms) [] bs = []
 entriesFrom (m ∷ ms) (l ∷ ls) bs = record { mode = m; name = take l bs } ∷ entriesFrom ms ls (drop l bs)
 
--- "count (2 bytes, at most 64), total (2 bytes)"
+-- where each part begins: "count (2 bytes, at most 64), total (2 bytes), then two parallel arrays of count bytes"
+abbrev pub countStart : ℕ
+countStart = 0
+
+abbrev pub totalStart : ℕ
+totalStart = 2
+
+abbrev pub modesStart : ℕ
+modesStart = 4
+
+abbrev pub lengthsStart : ℕ → ℕ
+lengthsStart count = modesStart + count
+
+abbrev pub namesStart : ℕ → ℕ
+namesStart count = modesStart + 2 * count
+
 unfoldable pub countIn : List ℕ → ℕ
 unfolding leAt
-countIn s = leAt s 0 2
+countIn s = leAt s countStart 2
 
 unfoldable pub totalIn : List ℕ → ℕ
 unfolding leAt
-totalIn s = leAt s 2 2
+totalIn s = leAt s totalStart 2
 
 abbrev pub modesIn : List ℕ → List ℕ
-modesIn s = take (countIn s) (drop 4 s)
+modesIn s = take (countIn s) (drop modesStart s)
 
 abbrev pub lengthsIn : List ℕ → List ℕ
-lengthsIn s = take (countIn s) (drop (4 + countIn s) s)
+lengthsIn s = take (countIn s) (drop (lengthsStart (countIn s)) s)
 
 abbrev pub nameBytesIn : List ℕ → List ℕ
-nameBytesIn s = drop (4 + 2 * countIn s) s
+nameBytesIn s = drop (namesStart (countIn s)) s
 
 unfoldable pub entriesIn : List ℕ → List Entry
 unfolding countIn entriesFrom
@@ -59,25 +83,29 @@ allAtMost k (m ∷ ms) = leb m k && allAtMost k ms
 unfoldable pub wellMade : ℕ → List ℕ → Bool
 unfolding countIn totalIn sum allAtMost allAscii
 wellMade most s =
-    leb 4 (length s) && leb (countIn s) 64 && eqb (length s) (4 + 2 * countIn s + totalIn s) && eqb (sum (lengthsIn s)) (totalIn s)
+    leb modesStart (length s) && leb (countIn s) 64 && eqb (length s) (namesStart (countIn s) + totalIn s) && eqb (sum (lengthsIn s)) (totalIn s)
     && allAtMost most (modesIn s) && allAscii (nameBytesIn s)
 
--- "Modes: 0 read-write, 1 read-only, 2 write-only"
+-- a store table: no mode is above the last
 abbrev pub isTable : List ℕ → Bool
-isTable = wellMade 2
+isTable = wellMade writeOnly
 
 -- "A confirmed list has modes 0"
 abbrev pub isList : List ℕ → Bool
-isList = wellMade 0
+isList = wellMade readWrite
 
 -- "0 and 1 are readable"
 unfoldable pub isReadable : ℕ → Bool
-isReadable mode = leb mode 1
+isReadable mode = leb mode readOnly
 
--- the names of the entries whose mode is from lo up to hi
-unfoldable pub namesOf : ℕ → ℕ → List Entry → List (List ℕ)
-namesOf lo hi [] = []
-namesOf lo hi (e ∷ es) = cond (within lo hi (e .mode)) (e .name ∷ namesOf lo hi es) (namesOf lo hi es)
+-- the names of entries, whatever their modes
+unfoldable pub allNames : List Entry → List (List ℕ)
+allNames es = map (λ e. e .name) es
+
+-- the names of the write-only stores
+unfoldable pub writeOnlyNames : List Entry → List (List ℕ)
+writeOnlyNames [] = []
+writeOnlyNames (e ∷ es) = let ns = writeOnlyNames es in cond (eqb (e .mode) writeOnly) (e .name ∷ ns) ns
 
 -- how many readable stores are confirmed
 unfoldable pub readyCount : List Entry → List (List ℕ) → ℕ
@@ -101,6 +129,6 @@ Distinct es = (i j : ℕ) (d e : Entry) → i < j → getElem? es i ≡ some d �
 
 -- a table or a list whose names lie within it
 pub record Laid (s : List ℕ) : Type 0 where
-  pub arrays : 4 + 2 * countIn s ≤ length s
-  pub names : 4 + 2 * countIn s + sum (lengthsIn s) ≤ length s
+  pub arrays : namesStart (countIn s) ≤ length s
+  pub names : namesStart (countIn s) + sum (lengthsIn s) ≤ length s
   pub few : countIn s ≤ 64

@@ -3,10 +3,25 @@ ghost use mathlib.Core.Path.{_≡_};
 ghost use Prim.Native.Nat.{_<_, _+_, _≤_};
 ghost use lib.ListN.{length, drop, take};
 ghost use Rattle.store_table.specs.Names.{sameName};
-ghost use Rattle.store_table.specs.Stores.{isReadable, sum, allAtMost, wellMade, Laid, countIn};
+ghost use Rattle.store_table.specs.Stores.{Entry, isReadable, sum, allAtMost, wellMade, isTable, isList, Laid, countIn, entriesIn, namesStart};
+ghost use Rattle.store_table.specs.Inner.Index.{EntryAt, lengthAt};
 use little_endian::le2;
 use little_endian::le8;
 use slices::ascii_from;
+
+// Where the count, the total and the modes of a table or a list begin.
+pub const COUNT_START: usize = 0;
+
+pub const TOTAL_START: usize = 2;
+
+pub const MODES_START: usize = 4;
+
+// The modes of a store.
+pub const READ_WRITE: u8 = 0;
+
+pub const READ_ONLY: u8 = 1;
+
+pub const WRITE_ONLY: u8 = 2;
 
 // The index of a store whose name an earlier store has, or none.
 pub enum Twin {
@@ -57,7 +72,31 @@ pub fn same_name(a: &[u8], b: &[u8]) -> bool
 pub fn is_readable(mode: u8) -> bool
     ensures { λ r. ⌜ r ≡ isReadable mode ⌝ }
 {
-    mode <= 1
+    mode <= READ_ONLY
+}
+
+// Where the names begin, of a table or a list of this many entries.
+pub fn names_start(count: usize) -> usize
+    requires { ⌜ count ≤ 64 ⌝ }
+    ensures { λ r. ⌜ r ≡ namesStart count ⌝ }
+{
+    MODES_START + 2 * count
+}
+
+// The mode of entry k.
+pub fn mode_at(s: &[u8], k: usize) -> u8
+    requires { ⌜ Laid (now s) × (k < countIn (now s)) ⌝ }
+    ensures { λ r. ⌜ ((x : Entry) → EntryAt (entriesIn (now (s .entry))) k x → r ≡ x .mode) ⌝ }
+{
+    s[MODES_START + k]
+}
+
+// The length of the name of entry k, of `count` entries.
+pub fn length_at(s: &[u8], count: usize, k: usize) -> usize
+    requires { ⌜ Laid (now s) × ((count ≡ countIn (now s)) × (k < count)) ⌝ }
+    ensures { λ r. ⌜ (r ≡ lengthAt (now (s .entry)) k) × (r < 256) ⌝ }
+{
+    wide(s[MODES_START + count + k])
 }
 
 // The sum of n bytes from a position on.
@@ -90,27 +129,41 @@ fn all_at_most(s: &[u8], at: usize, n: usize, most: u8) -> bool
 }
 
 // Whether the bytes are a well-made table or list, with modes of at most `most`.
-pub fn well_made(s: &[u8], most: u8) -> bool
+fn well_made(s: &[u8], most: u8) -> bool
     ensures { λ r. ⌜ r ≡ wellMade most (now (s .entry)) ⌝ }
 {
-    if s.len() < 4 {
+    if s.len() < MODES_START {
         return false;
     }
-    let count = le2(s, 0) as usize;
-    let total = le2(s, 2) as usize;
+    let count = le2(s, COUNT_START) as usize;
+    let total = le2(s, TOTAL_START) as usize;
     if 64 < count {
         return false;
     }
-    if s.len() != 4 + 2 * count + total {
+    if s.len() != names_start(count) + total {
         return false;
     }
-    if sum_from(s, 4 + count, count) != total {
+    if sum_from(s, MODES_START + count, count) != total {
         return false;
     }
-    if !all_at_most(s, 4, count, most) {
+    if !all_at_most(s, MODES_START, count, most) {
         return false;
     }
-    ascii_from(s, 4 + 2 * count)
+    ascii_from(s, names_start(count))
+}
+
+// Whether the bytes are a well-made store table.
+pub fn is_table(s: &[u8]) -> bool
+    ensures { λ r. ⌜ r ≡ isTable (now (s .entry)) ⌝ }
+{
+    well_made(s, WRITE_ONLY)
+}
+
+// Whether the bytes are a well-made confirmed list.
+pub fn is_list(s: &[u8]) -> bool
+    ensures { λ r. ⌜ r ≡ isList (now (s .entry)) ⌝ }
+{
+    well_made(s, READ_WRITE)
 }
 
 // How many entries there are.
@@ -118,7 +171,7 @@ pub fn count_of(s: &[u8]) -> usize
     requires { ⌜ Laid (now s) ⌝ }
     ensures { λ r. ⌜ (r ≡ countIn (now (s .entry))) × (r ≤ 64) ⌝ }
 {
-    le2(s, 0) as usize
+    le2(s, COUNT_START) as usize
 }
 
 // The index of an entry, or none.

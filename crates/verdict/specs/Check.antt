@@ -10,7 +10,7 @@ use Rattle.rules.specs.Rule.{Leaf, named, olderThan, readable, Rule, leaf, node
 use Rattle.image.specs.Decode.{decode}
 use Rattle.grammar.specs.Reading.{Read, rule, refused, readOf}
 use Rattle.store_table.specs.Names.{has}
-use Rattle.store_table.specs.Stores.{Entry, entriesIn, namesOf}
+use Rattle.store_table.specs.Stores.{Entry, entriesIn, allNames, writeOnlyNames}
 use Rattle.evaluate.specs.Evict.{worldOf, evict}
 use Rattle.decide.specs.Tests.{unlessDue, tableTest, twinTest}
 use Rattle.verdict.specs.declared.Unknown.{Unknown}
@@ -22,7 +22,7 @@ use Rattle.verdict.specs.declared.Verdict.the-variants.{Pass, Refused}
 
 -- a leaf names a store not in the table
 unfoldable pub isUnknown : List Entry → Leaf → Bool
-isUnknown stores (named w) = not (has w (namesOf 0 2 stores))
+isUnknown stores (named w) = not (has w (allNames stores))
 isUnknown stores (olderThan d) = false
 isUnknown stores (readable k) = false
 
@@ -48,17 +48,13 @@ unfoldable mutual
 abbrev pub oldest : ℕ
 oldest = 2 ^ 64 - 1
 
--- the names of the write-only stores
-abbrev pub writeOnly : List Entry → List (List ℕ)
-writeOnly stores = namesOf 2 2 stores
-
 -- "21 (largest age, nothing confirmed)"
 abbrev pub bare : Rule → List Entry → Bool
 bare r stores = evict r (worldOf stores oldest [])
 
 -- "22 (largest age, exactly the write-only names, only if there are some)"
 abbrev pub archived : Rule → List Entry → Bool
-archived r stores = leb 1 (length (writeOnly stores)) && evict r (worldOf stores oldest (writeOnly stores))
+archived r stores = leb 1 (length (writeOnlyNames stores)) && evict r (worldOf stores oldest (writeOnlyNames stores))
 
 -- ---- check
 

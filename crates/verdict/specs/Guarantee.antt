@@ -16,7 +16,7 @@ use Rattle.grammar.specs.Reading.{rule, refused, readOf}
 use Rattle.read.specs.Outcome.{readInto}
 use Rattle.read.specs.declared.Reading.{Reading}
 use Rattle.read.specs.declared.Reading.the-variants.{Read as Written, Refused as Unread}
-use Rattle.store_table.specs.Stores.{Entry, isTable, isList, countIn, entriesIn, isReadable, Distinct}
+use Rattle.store_table.specs.Stores.{Entry, isTable, isList, countIn, entriesIn, isReadable, Distinct, writeOnly}
 use Rattle.evaluate.specs.Evict.{worldOf, evict}
 use Rattle.decide.specs.Decide.{saying, listNames, decideOf}
 use Rattle.verdict.specs.Check.{oldest, checkOf}
@@ -48,7 +48,7 @@ pub record Nothing (l : List ℕ) : Type 0 where
 
 -- a table has a write-only store of this name
 abbrev pub WriteOnly : List ℕ → List ℕ → Type 0
-WriteOnly w s = (e : Entry) × List·Memᴰ e (entriesIn s) × (e .mode ≡ 2) × (e .name ≡ w)
+WriteOnly w s = (e : Entry) × List·Memᴰ e (entriesIn s) × (e .mode ≡ writeOnly) × (e .name ≡ w)
 
 -- a list with "the write-only stores, and no others, confirmed"
 pub record JustWriteOnly (s l : List ℕ) : Type 0 where

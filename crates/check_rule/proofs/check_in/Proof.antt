@@ -15,7 +15,7 @@ use Rattle.check_rule.proofs.check_in.Tie as tie
 
 -- what the tests that were passed say
 the-table : (c : tie.Else1) → isTable (c .before .before .before .before .before .args .stores .now) ≡ true
-the-table c = sym (c .before .well-made .ensures) ∙ not-false _ (c .if1 .left)
+the-table c = sym (c .before .is-table .ensures) ∙ not-false _ (c .if1 .left)
 
 the-lone : (c : tie.After-enum-told) → twinOf (entriesIn (c .before .before .before .before .before .before .before .before .before .before .args .stores .now)) ≡ No
 the-lone c = sym (c .before .before .twin-of .ensures .0) ∙ c .enum-told .given .1
@@ -27,14 +27,14 @@ the-stores c = record {
   stored = λ e. omega (arith, c .if2 .left, c .before .count-of .ensures);
 }
 
-well-made-requires : tie.Need-well-made-requires
-well-made-requires c κs = search needs
+is-table-requires : tie.Need-is-table-requires
+is-table-requires c κs = search needs
 
 refuse-requires : tie.Need-refuse-requires
 refuse-requires c κs = search needs
 
 returns : tie.Need-returns
-returns c r z st = c .refuse .ensures ∙ refused-17 r _ (sym (c .before .before .well-made .ensures) ∙ not-true _ (c .before .if1 .taken))
+returns c r z st = c .refuse .ensures ∙ refused-17 r _ (sym (c .before .before .is-table .ensures) ∙ not-true _ (c .before .if1 .taken))
 
 twin-of-requires : tie.Need-twin-of-requires
 twin-of-requires c κs = (well-made-laid _ _ (the-table (c .before .before)), zeros-blank 512)
@@ -73,7 +73,7 @@ pub check-in-spec : {M : Type 1} → statement M
 check-in-spec =
     tie.close
     (tie.spec
-    well-made-requires
+    is-table-requires
     refuse-requires
     returns
     twin-of-requires

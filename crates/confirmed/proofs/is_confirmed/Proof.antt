@@ -46,7 +46,7 @@ returns-2 c =
     let l = p .before .before .before .before .before in
     let s = l .before .before .before in
     let t = p .position .ensures .there _ (c .enum-told2 .given .1) in
-    let h = has-at _ (λ i. omega (arith, l .shared-slice-known3 .given i)) _ (c .enum-told2 .given .0 .0) (t .0) (t .1 .1 .0) in
+    let h = has-at _ _ (c .enum-told2 .given .0 .0) (t .0) (t .1 .1 .0) in
     sym (rw (same-eq _ _ (t .1 .1 .1), ← entries-all (s .args .list .now) _ (s .pre .1 .0) (p .before .count-of .ensures .0)) h)
 
 returns-3 : tie.Need-returns-3

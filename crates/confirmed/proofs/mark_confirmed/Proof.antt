@@ -5,7 +5,7 @@ use native.Mathlib.Omega.{arith}
 use borrow.Author.Needs.{needs}
 use lib.ListN.{length, take}
 use lib.Seq.{take-all}
-use Rattle.store_table.specs.Stores.{entriesIn, namesOf}
+use Rattle.store_table.specs.Stores.{entriesIn, allNames}
 use Rattle.store_table.proofs.Laws.WalkLaws.{length-entries, standing-start, standing-within, standing-next, standing-here}
 use Rattle.store_table.specs.Inner.Index.{Marked, Standing}
 use Rattle.store_table.proofs.Laws.MarkLaws.{marked-start, marked-found, marked-none}
@@ -13,40 +13,28 @@ use Rattle.confirmed.proofs.mark_confirmed.Statement.{statement}
 use Rattle.confirmed.proofs.mark_confirmed.Tie as tie
 
 abbrev Inv-loop : tie.InvT-loop
-Inv-loop stores list starts slots marks₀ count k₀ at₀ marks k at = Standing list count k at × Marked (entriesIn stores) (namesOf 0 255 (take k (entriesIn list))) marks
+Inv-loop stores list starts slots marks₀ count k₀ at₀ marks k at = Standing list count k at × Marked (entriesIn stores) (allNames (take k (entriesIn list))) marks
 
 abbrev μ-loop : tie.MeasureT-loop
 μ-loop stores list starts slots marks₀ count k₀ at₀ marks k at = count - k
 
 -- the name of the list's entry k lies within the bytes
-inside : (c : tie.After-wide Inv-loop μ-loop) → c .before .before .before .loop .at + c .wide .result ≤ length (c .before .before .before .before .before .before .before .args .list .now)
-inside c = omega (arith, standing-within (c .before .before .before .loop .inv .0) (c .before .before .loop-test .taken) (c .wide .ensures .0))
+inside : (c : tie.After-length-at Inv-loop μ-loop) → c .before .before .loop .at + c .length-at .result ≤ length (c .before .before .before .before .before .before .before .args .list .now)
+inside c = omega (arith, standing-within (c .before .before .loop .inv .0) (c .before .loop-test .taken) (c .length-at .ensures .0))
 
 count-of-requires : tie.Need-count-of-requires Inv-loop μ-loop
 count-of-requires c κs = search needs
 
-mul-at : tie.Need-mul-at Inv-loop μ-loop
-mul-at c = omega arith
-
-add-at : tie.Need-add-at Inv-loop μ-loop
-add-at c = omega arith
+names-start-requires : tie.Need-names-start-requires Inv-loop μ-loop
+names-start-requires c κs = search needs
 
 loop-holds : tie.Need-loop-holds Inv-loop μ-loop
 loop-holds c =
-    let s = c .before .before .before in
-    (standing-start _ _ (s .pre .1 .0) (c .count-of .ensures .0), marked-start (entriesIn (s .args .stores .now)) (entriesIn (s .args .list .now)) (s .args .marks .now) (s .pre .1 .1 .1 .1))
+    let s = c .before .before .before .before in
+    (rw (c .names-start .ensures) (standing-start _ _ (s .pre .1 .0) (c .before .count-of .ensures .0)), marked-start (entriesIn (s .args .stores .now)) (entriesIn (s .args .list .now)) (s .args .marks .now) (s .pre .1 .1 .1 .1))
 
-add-wide : tie.Need-add-wide Inv-loop μ-loop
-add-wide c = omega arith
-
-add-wide-2 : tie.Need-add-wide-2 Inv-loop μ-loop
-add-wide-2 c = omega arith
-
-shared-slice-read-wide : tie.Need-shared-slice-read-wide Inv-loop μ-loop
-shared-slice-read-wide c = omega arith
-
-wide-requires : tie.Need-wide-requires Inv-loop μ-loop
-wide-requires c κs = search needs
+length-at-requires : tie.Need-length-at-requires Inv-loop μ-loop
+length-at-requires c κs = let l = c .before .loop in (l .inv .0 .laid, (l .inv .0 .counted, omega arith))
 
 add-find : tie.Need-add-find Inv-loop μ-loop
 add-find c = omega (arith, inside c)
@@ -74,8 +62,8 @@ mark-requires c κs =
 enum-told : tie.Need-enum-told Inv-loop μ-loop
 enum-told c = search needs
 
-add-at-2 : tie.Need-add-at-2 Inv-loop μ-loop
-add-at-2 c = omega (arith, inside (c .before .before .before))
+add-at : tie.Need-add-at Inv-loop μ-loop
+add-at c = omega (arith, inside (c .before .before .before))
 
 add-k : tie.Need-add-k Inv-loop μ-loop
 add-k c = omega arith
@@ -86,27 +74,26 @@ loop-less c = omega arith
 loop-again : tie.Need-loop-again Inv-loop μ-loop
 loop-again c =
     let w = c .before .before .before in
-    let l = w .before .before .before .loop in
-    let lt = w .before .before .loop-test .taken in
-    let e = standing-here (l .inv .0) lt (w .wide .ensures .0) in
-    let low = w .before .shared-slice-known3 .given (4 + l .k) in
+    let l = w .before .before .loop in
+    let lt = w .before .loop-test .taken in
+    let e = standing-here (l .inv .0) lt (w .length-at .ensures .0) in
     let known = w .before .before .before .before .before .before in
     let s = known .before in
     let f = c .before .find .ensures in (
-      standing-next (l .inv .0) lt (w .wide .ensures .0),
+      standing-next (l .inv .0) lt (w .length-at .ensures .0),
       ⊎-elim
           (λ u.
           let g = f .there _ (u .1 .given .1) in
-          rw (u .5, u .4 .ensures) (marked-found (s .args .stores .now) (entriesIn (s .args .list .now)) (l .k) (l .marks) (l .inv .1) e (omega arith) (s .pre .1 .1 .0) _ (g .1 .1 .0) (g .1 .1 .1) (omega (arith, u .3 .given .0 .1, g .0))))
+          rw (u .5, u .4 .ensures) (marked-found (s .args .stores .now) (entriesIn (s .args .list .now)) (l .k) (l .marks) (l .inv .1) e (s .pre .1 .1 .0) _ (g .1 .1 .0) (g .1 .1 .1) (omega (arith, u .3 .given .0 .1, g .0))))
           (λ u.
           rw (u .2)
-          (marked-none (s .args .stores .now) (entriesIn (s .args .list .now)) (l .k) (l .marks) (l .inv .1) e (omega arith) (s .pre .0) (λ i. omega (arith, known .shared-slice-known .given i)) (f .missing (u .1 .given .1))))
+          (marked-none (s .args .stores .now) (entriesIn (s .args .list .now)) (l .k) (l .marks) (l .inv .1) e (s .pre .0) (f .missing (u .1 .given .1))))
           (c .match .came),
     )
 
 returns : tie.Need-returns Inv-loop μ-loop
 returns c =
-    let s = c .before .before .before .before .before in
+    let s = c .before .before .before .before .before .before in
     rw (take-all (c .before .loop .k) (entriesIn (s .args .list .now)) (omega (arith, length-entries (s .args .list .now) (s .pre .1 .0)))) at (c .before .loop .inv .1)
 
 pub mark-confirmed-spec : {M : Type 1} → statement M
@@ -116,13 +103,9 @@ mark-confirmed-spec =
     Inv-loop
     μ-loop
     count-of-requires
-    mul-at
-    add-at
+    names-start-requires
     loop-holds
-    add-wide
-    add-wide-2
-    shared-slice-read-wide
-    wide-requires
+    length-at-requires
     add-find
     sub-find
     part-find-start
@@ -131,7 +114,7 @@ mark-confirmed-spec =
     enum-known-i
     mark-requires
     enum-told
-    add-at-2
+    add-at
     add-k
     loop-less
     loop-again

@@ -20,13 +20,13 @@ the-image : (c : tie.Else1) → isSome (decode (c .before .before .before .befor
 the-image c = sym (c .before .is-image .ensures) ∙ not-false _ (c .if1 .left)
 
 the-table : (c : tie.Else2) → isTable (c .before .before .before .before .before .before .before .args .stores .now) ≡ true
-the-table c = sym (c .before .well-made .ensures) ∙ not-false _ (c .if2 .left)
+the-table c = sym (c .before .is-table .ensures) ∙ not-false _ (c .if2 .left)
 
 the-lone : (c : tie.After-enum-told) → twinOf (entriesIn (c .before .before .before .before .before .before .before .before .before .before .before .before .args .stores .now)) ≡ No
 the-lone c = sym (c .before .before .twin-of .ensures .0) ∙ c .enum-told .given .1
 
 the-list : (c : tie.Else3) → isList (c .before .before .before .before .before .before .before .before .before .before .before .before .before .before .args .list .now) ≡ true
-the-list c = sym (c .before .well-made2 .ensures) ∙ not-false _ (c .if3 .left)
+the-list c = sym (c .before .is-list .ensures) ∙ not-false _ (c .if3 .left)
 
 is-image-requires : tie.Need-is-image-requires
 is-image-requires c κs = search needs
@@ -38,15 +38,15 @@ returns : tie.Need-returns
 returns c =
     c .refuse .ensures ∙ refused-16 _ _ _ _ (sym (c .before .before .is-image .ensures) ∙ not-true _ (c .before .if1 .taken))
 
-well-made-requires : tie.Need-well-made-requires
-well-made-requires c κs = search needs
+is-table-requires : tie.Need-is-table-requires
+is-table-requires c κs = search needs
 
 refuse-requires-2 : tie.Need-refuse-requires-2
 refuse-requires-2 c κs = search needs
 
 returns-2 : tie.Need-returns-2
 returns-2 c =
-    c .refuse2 .ensures ∙ refused-17 _ _ _ _ (the-image (c .before .before .before)) (sym (c .before .before .well-made .ensures) ∙ not-true _ (c .before .if2 .taken))
+    c .refuse2 .ensures ∙ refused-17 _ _ _ _ (the-image (c .before .before .before)) (sym (c .before .before .is-table .ensures) ∙ not-true _ (c .before .if2 .taken))
 
 twin-of-requires : tie.Need-twin-of-requires
 twin-of-requires c κs = (well-made-laid _ _ (the-table (c .before .before)), zeros-blank 512)
@@ -64,15 +64,15 @@ returns-3 c =
 enum-told : tie.Need-enum-told
 enum-told c = search needs
 
-well-made-requires-2 : tie.Need-well-made-requires-2
-well-made-requires-2 c κs = search needs
+is-list-requires : tie.Need-is-list-requires
+is-list-requires c κs = search needs
 
 refuse-requires-4 : tie.Need-refuse-requires-4
 refuse-requires-4 c κs = search needs
 
 returns-4 : tie.Need-returns-4
 returns-4 c =
-    c .refuse4 .ensures ∙ refused-19 _ _ _ _ (the-image (c .before .before .before .before .before .before .before .before .before .before)) (the-table (c .before .before .before .before .before .before .before .before)) (the-lone (c .before .before .before)) (sym (c .before .before .well-made2 .ensures) ∙ not-true _ (c .before .if3 .taken))
+    c .refuse4 .ensures ∙ refused-19 _ _ _ _ (the-image (c .before .before .before .before .before .before .before .before .before .before)) (the-table (c .before .before .before .before .before .before .before .before)) (the-lone (c .before .before .before)) (sym (c .before .before .is-list .ensures) ∙ not-true _ (c .before .if3 .taken))
 
 mark-confirmed-requires : tie.Need-mark-confirmed-requires
 mark-confirmed-requires c κs =
@@ -111,7 +111,7 @@ decide-spec =
     is-image-requires
     refuse-requires
     returns
-    well-made-requires
+    is-table-requires
     refuse-requires-2
     returns-2
     twin-of-requires
@@ -119,7 +119,7 @@ decide-spec =
     refuse-requires-3
     returns-3
     enum-told
-    well-made-requires-2
+    is-list-requires
     refuse-requires-4
     returns-4
     mark-confirmed-requires

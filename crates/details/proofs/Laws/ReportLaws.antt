@@ -2,21 +2,20 @@
 use mathlib.Core.Path.{_≡_, refl, ap}
 use mathlib.Core.List.{List, [], _++_, append-nil, append-assoc}
 use mathlib.Core.Bool.{false}
-use Prim.Native.Nat.{ℕ, _+_, _*_, _≤_, _<_}
+use Prim.Native.Nat.{ℕ, _+_, _≤_, _<_}
 use native.Mathlib.Decide.{decLt}
 use native.Mathlib.Omega.{arith}
 use borrow.Author.Tests.{ne-eqb}
-use lib.ListN.{length, drop, getD, length-append, drop-of-length-le}
+use lib.ListN.{length, drop, length-append, drop-of-length-le}
 use Rattle.ascii.specs.Letters.{within}
 use Rattle.slices.specs.Written.{Put}
 use Rattle.slices.proofs.Laws.WrittenLaws.{put-none, put-behind, put-length}
 use Rattle.slices.proofs.Laws.SearchLaws.{is-below, is-above}
 use Rattle.refusals.specs.declared.Refusal.{Refusal}
 use Rattle.lines.proofs.Laws.LinesLaws.{shown-length}
-use Rattle.store_table.specs.Stores.{Entry, Laid, countIn, entriesIn, namesOf}
-use Rattle.store_table.specs.Inner.Index.{Standing}
+use Rattle.store_table.specs.Stores.{Entry, writeOnly, namesStart, Laid, countIn, entriesIn, writeOnlyNames}
+use Rattle.store_table.specs.Inner.Index.{Standing, EntryAt, lengthAt}
 use Rattle.store_table.proofs.Laws.WalkLaws.{length-entries, standing-start, standing-next, standing-here, entryAt}
-use Rattle.verdict.specs.Check.{writeOnly}
 use Rattle.details.specs.Report.{confirmedLine, confirmedLines, detail}
 use Rattle.details.proofs.Laws.ShortLaws.{lines-short}
 
@@ -40,39 +39,42 @@ pub record Named (s a b : List ℕ) (at count k start end : ℕ) : Type 0 where
   pub stands : Standing s count k start
   pub done : List ℕ
   pub put : Put a b at end done
-  pub rest : done ++ confirmedLines (writeOnly (drop k (entriesIn s))) ≡ confirmedLines (writeOnly (entriesIn s))
+  pub rest : done ++ confirmedLines (writeOnlyNames (drop k (entriesIn s))) ≡ confirmedLines (writeOnlyNames (entriesIn s))
 
-pub named-start : (s a : List ℕ) (at count : ℕ) → Laid s → count ≡ countIn s → Named s a a at count 0 (4 + 2 * count) at
+pub named-start : (s a : List ℕ) (at count : ℕ) → Laid s → count ≡ countIn s → Named s a a at count 0 (namesStart count) at
 named-start s a at count h e = record { stands = standing-start s count h e; done = []; put = put-none a at; rest = refl }
 
 module _ {s a b : List ℕ} {at count k start end : ℕ} (h : Named s a b at count k start end) (room : at + length s + 768 ≤ length a) where
   pub named-length : length b ≡ length a
   named-length = put-length (omega (arith, simp length-append at (ap length (h .rest)), lines-short s (h .stands .laid))) (h .put)
 
-  pub named-end : count ≤ k → Put a b at end (confirmedLines (writeOnly (entriesIn s)))
-  unfolding confirmedLines namesOf
+  pub named-end : count ≤ k → Put a b at end (confirmedLines (writeOnlyNames (entriesIn s)))
+  unfolding confirmedLines writeOnlyNames
   named-end le =
       let l : length (entriesIn s) ≤ k = omega (arith, length-entries s (h .stands .laid)) in
       let e = rw (drop-of-length-le (entriesIn s) l, append-nil) at (h .rest) in
       rw e at (h .put)
 
-  -- one store more, of a name of this length
-  module _ (lt : k < count) {len : ℕ} (e : len ≡ getD s (4 + count + k) 0) where
-    pub named-no : (getD s (4 + k) 0 ≡ 2 → ⊥) → Named s a b at count (k + 1) (start + len) end
-    unfolding namesOf
+  -- one store more, of a name of this length and of this mode
+  module _ (lt : k < count) {len : ℕ} (e : len ≡ lengthAt s k) {mode : ℕ} (m : (x : Entry) → EntryAt (entriesIn s) k x → mode ≡ x .mode) where
+    the-mode : mode ≡ entryAt s k start len .mode
+    the-mode = m (entryAt s k start len) (standing-here (h .stands) lt e)
+
+    pub named-no : (mode ≡ writeOnly → ⊥) → Named s a b at count (k + 1) (start + len) end
+    unfolding writeOnlyNames
     named-no n =
         record {
           stands = standing-next (h .stands) lt e;
           done = h .done;
           put = h .put;
-          rest = rw (standing-here (h .stands) lt e, outside 2 2 (getD s (4 + k) 0) (λ p q. n (omega arith))) at (h .rest);
+          rest = rw (standing-here (h .stands) lt e, ← the-mode, ne-eqb mode writeOnly n) at (h .rest);
         }
 
     -- that is write-only
-    module _ (y : getD s (4 + k) 0 ≡ 2) where
-      rest-yes : h .done ++ (confirmedLine (entryAt s k start len .name) ++ confirmedLines (writeOnly (drop (k + 1) (entriesIn s)))) ≡ confirmedLines (writeOnly (entriesIn s))
-      unfolding namesOf confirmedLines
-      rest-yes = rw (standing-here (h .stands) lt e, y) at (h .rest)
+    module _ (y : mode ≡ writeOnly) where
+      rest-yes : h .done ++ (confirmedLine (entryAt s k start len .name) ++ confirmedLines (writeOnlyNames (drop (k + 1) (entriesIn s)))) ≡ confirmedLines (writeOnlyNames (entriesIn s))
+      unfolding writeOnlyNames confirmedLines
+      rest-yes = rw (standing-here (h .stands) lt e, ← the-mode, y) at (h .rest)
 
       pub named-room : end + length (entryAt s k start len .name) + 12 ≤ length b
       named-room =

@@ -5,9 +5,8 @@ use mathlib.Core.List.{List, [], _∷_}
 use Prim.Native.Nat.{ℕ, zero, suc, _+_, _*_, _≤_}
 use native.Mathlib.Omega.{arith}
 use borrow.Author.Tests.{leb-true}
-use lib.Dec.{leb, ltb}
+use lib.Dec.{eqb, leb, ltb}
 use lib.ListN.{length, take, drop, getD, length-append, length-take, length-drop}
-use Rattle.ascii.specs.Letters.{within}
 use Rattle.refusals.specs.Refusals.{row, table, rowOf}
 use Rattle.refusals.specs.declared.Row.{Row}
 use Rattle.decimal.proofs.Laws.DigitsLaws.{digits-short}
@@ -18,10 +17,9 @@ use Rattle.image.specs.Encode.{encode}
 use Rattle.image.specs.Decode.{nodeAt, cellAt, meaning}
 use Rattle.grammar.specs.Reading.{Read, rule, refused, readOf}
 use Rattle.grammar.proofs.Laws.FitsLaws.{read-length}
-use Rattle.store_table.specs.Stores.{Laid, entriesFrom, entriesIn, modesIn, lengthsIn, nameBytesIn, sum, namesOf}
+use Rattle.store_table.specs.Stores.{Laid, entriesFrom, entriesIn, modesIn, lengthsIn, nameBytesIn, sum, writeOnly, writeOnlyNames}
 use Rattle.verdict.specs.declared.Verdict.{Verdict}
 use Rattle.verdict.specs.declared.Verdict.the-variants.{Pass, Refused}
-use Rattle.verdict.specs.Check.{writeOnly}
 use Rattle.details.specs.Report.{verdictLine, nameIn, nodeName, confirmedLines}
 use Rattle.details.proofs.Laws.NodeNameLaws.{unnamed}
 
@@ -72,16 +70,16 @@ name-short text i = go (readOf text) refl
     go (refused f) q = omega arith
 
 -- ---- the names of the write-only stores, with twelve bytes about each
-lines-from : (ms ls bs : List ℕ) → length (confirmedLines (writeOnly (entriesFrom ms ls bs))) ≤ 12 * length ms + sum ls
-unfolding entriesFrom namesOf confirmedLines sum
+lines-from : (ms ls bs : List ℕ) → length (confirmedLines (writeOnlyNames (entriesFrom ms ls bs))) ≤ 12 * length ms + sum ls
+unfolding entriesFrom writeOnlyNames confirmedLines sum
 lines-from [] ls bs = omega arith
 lines-from (m ∷ ms) [] bs = omega arith
-lines-from (m ∷ ms) (l ∷ ls) bs = go (within 2 2 m) (writeOnly (entriesFrom ms ls (drop l bs))) (lines-from ms ls (drop l bs))
+lines-from (m ∷ ms) (l ∷ ls) bs = go (eqb m writeOnly) (writeOnlyNames (entriesFrom ms ls (drop l bs))) (lines-from ms ls (drop l bs))
   where
     go : (b : Bool) (ns : List (List ℕ)) → length (confirmedLines ns) ≤ 12 * length ms + sum ls → length (confirmedLines (cond b (take l bs ∷ ns) ns)) ≤ 12 * suc (length ms) + (l + sum ls)
     go true ns h = simp (length-append, shown-length, length-take) (omega arith)
     go false ns h = omega arith
 
-pub lines-short : (s : List ℕ) → Laid s → length (confirmedLines (writeOnly (entriesIn s))) ≤ length s + 768
+pub lines-short : (s : List ℕ) → Laid s → length (confirmedLines (writeOnlyNames (entriesIn s))) ≤ length s + 768
 unfolding entriesIn
 lines-short s h = omega (arith, simp length-take at (lines-from (modesIn s) (lengthsIn s) (nameBytesIn s)))

@@ -16,38 +16,23 @@ abbrev μ-loop : tie.MeasureT-loop
 μ-loop page₀ at stores count k₀ start₀ end₀ page k start end = count - k
 
 -- the name of store k lies within the bytes
-inside : (c : tie.After-wide Inv-loop μ-loop) → c .before .before .before .loop .start + c .wide .result ≤ length (c .before .before .before .before .before .before .before .args .stores .now)
-inside c = omega (arith, standing-within (c .before .before .before .loop .inv .stands) (c .before .before .loop-test .taken) (c .wide .ensures .0))
+inside : (c : tie.After-length-at Inv-loop μ-loop) → c .before .before .loop .start + c .length-at .result ≤ length (c .before .before .before .before .before .before .before .args .stores .now)
+inside c = omega (arith, standing-within (c .before .before .loop .inv .stands) (c .before .loop-test .taken) (c .length-at .ensures .0))
 
 count-of-requires : tie.Need-count-of-requires Inv-loop μ-loop
 count-of-requires c κs = search needs
 
-mul-start : tie.Need-mul-start Inv-loop μ-loop
-mul-start c = omega arith
-
-add-start : tie.Need-add-start Inv-loop μ-loop
-add-start c = omega arith
+names-start-requires : tie.Need-names-start-requires Inv-loop μ-loop
+names-start-requires c κs = search needs
 
 loop-holds : tie.Need-loop-holds Inv-loop μ-loop
-loop-holds c = named-start _ _ _ _ (c .before .before .before .pre .0) (c .count-of .ensures .0)
+loop-holds c = rw (c .names-start .ensures) (named-start _ _ _ _ (c .before .before .before .before .pre .0) (c .before .count-of .ensures .0))
 
-add-wide : tie.Need-add-wide Inv-loop μ-loop
-add-wide c = omega arith
+length-at-requires : tie.Need-length-at-requires Inv-loop μ-loop
+length-at-requires c κs = let h = c .before .loop .inv .stands in (h .laid, (h .counted, omega arith))
 
-add-wide-2 : tie.Need-add-wide-2 Inv-loop μ-loop
-add-wide-2 c = omega arith
-
-shared-slice-read-wide : tie.Need-shared-slice-read-wide Inv-loop μ-loop
-shared-slice-read-wide c = omega arith
-
-wide-requires : tie.Need-wide-requires Inv-loop μ-loop
-wide-requires c κs = search needs
-
-add-if1 : tie.Need-add-if1 Inv-loop μ-loop
-add-if1 c = omega arith
-
-shared-slice-read-if1 : tie.Need-shared-slice-read-if1 Inv-loop μ-loop
-shared-slice-read-if1 c = omega arith
+mode-at-requires : tie.Need-mode-at-requires Inv-loop μ-loop
+mode-at-requires c κs = let h = c .before .before .loop .inv .stands in (h .laid, omega arith)
 
 add-append-confirmed : tie.Need-add-append-confirmed Inv-loop μ-loop
 add-append-confirmed c = omega (arith, inside (c .before .before .before))
@@ -64,10 +49,10 @@ part-append-confirmed-end c = omega (arith, inside (c .before .before .before))
 append-confirmed-requires : tie.Need-append-confirmed-requires Inv-loop μ-loop
 append-confirmed-requires c κs =
     let w = c .before .before .before .before in
-    named-room (w .before .before .before .loop .inv) (w .before .before .before .before .before .before .before .pre .1) (w .before .before .loop-test .taken) (w .wide .ensures .0) (c .before .before .if1 .taken)
+    named-room (w .before .before .loop .inv) (w .before .before .before .before .before .before .before .pre .1) (w .before .loop-test .taken) (w .length-at .ensures .0) (c .before .before .before .mode-at .ensures) (c .before .before .if1 .taken)
 
-add-start-2 : tie.Need-add-start-2 Inv-loop μ-loop
-add-start-2 c = omega (arith, inside (c .before .before))
+add-start : tie.Need-add-start Inv-loop μ-loop
+add-start c = omega (arith, inside (c .before .before))
 
 add-k : tie.Need-add-k Inv-loop μ-loop
 add-k c = omega arith
@@ -78,19 +63,19 @@ loop-less c = omega arith
 loop-again : tie.Need-loop-again Inv-loop μ-loop
 loop-again c =
     let w = c .before .before in
-    let l = w .before .before .before .loop in
+    let l = w .before .before .loop in
     let p = w .before .before .before .before .before .before .before .pre .1 in
-    let lt = w .before .before .loop-test .taken in
+    let lt = w .before .loop-test .taken in
     ⊎-elim
-    (λ u. named-yes (l .inv) p lt (w .wide .ensures .0) (u .0 .taken) (rw (u .6, u .7) (u .3 .ensures)))
-    (λ u. rw (u .1, u .2) (named-no (l .inv) p lt (w .wide .ensures .0) (u .0 .left)))
+    (λ u. named-yes (l .inv) p lt (w .length-at .ensures .0) (c .before .mode-at .ensures) (u .0 .taken) (rw (u .6, u .7) (u .3 .ensures)))
+    (λ u. rw (u .1, u .2) (named-no (l .inv) p lt (w .length-at .ensures .0) (c .before .mode-at .ensures) (u .0 .left)))
     (c .if1 .came)
 
 same-length : tie.Need-same-length Inv-loop μ-loop
-same-length c = named-length (c .before .loop .inv) (c .before .before .before .before .before .pre .1)
+same-length c = named-length (c .before .loop .inv) (c .before .before .before .before .before .before .pre .1)
 
 returns : tie.Need-returns Inv-loop μ-loop
-returns c = named-end (c .before .loop .inv) (c .before .before .before .before .before .pre .1) (omega arith)
+returns c = named-end (c .before .loop .inv) (c .before .before .before .before .before .before .pre .1) (omega arith)
 
 pub append-write-only-spec : {M : Type 1} → statement M
 append-write-only-spec =
@@ -99,21 +84,16 @@ append-write-only-spec =
     Inv-loop
     μ-loop
     count-of-requires
-    mul-start
-    add-start
+    names-start-requires
     loop-holds
-    add-wide
-    add-wide-2
-    shared-slice-read-wide
-    wide-requires
-    add-if1
-    shared-slice-read-if1
+    length-at-requires
+    mode-at-requires
     add-append-confirmed
     sub-append-confirmed
     part-append-confirmed-start
     part-append-confirmed-end
     append-confirmed-requires
-    add-start-2
+    add-start
     add-k
     loop-less
     loop-again

@@ -2,7 +2,7 @@
 -- grade. Assumes nothing.
 use mathlib.Core.Path.{_≡_, refl, _∙_}
 use mathlib.Core.Logic.{⊎-elim}
-use Prim.Native.Nat.{ℕ, _+_, _-_, _≤_, _<_}
+use Prim.Native.Nat.{ℕ, _-_, _≤_, _<_}
 use native.Mathlib.Omega.{arith}
 use borrow.Author.Needs.{needs}
 use lib.ListN.{length, length-set}
@@ -55,22 +55,15 @@ returns : tie.Need-returns Inv-loop μ-loop
 returns c =
     let s = c .before .before .before .before .before .before .before .before .before .before .before in
     let d = c .before .before .before .before .before .node-at in
-    let none = found-none 2 _ (s .pre .1 .1 .0 .table) (c .before .before .find .ensures) (c .enum-told .given .1) (omega arith) in (
+    let none = found-none _ _ (s .pre .1 .1 .0 .table) (c .before .before .find .ensures) (c .enum-told .given .1) in (
       λ r z st. first-here _ _ _ (c .before .before .before .before .before .before .before .loop .inv .2) r z st (name-says _ _ _ _ (d .ensures) (c .before .before .before .before .if1 .taken) (c .before .before .before .name-of .ensures) none) (omega arith),
       λ e. absurd (let z : _≡_ {A = ℕ} 0 1 = cc in omega arith),
     )
 
--- the mode of the entry that was found lies within the table
-the-mode : (c : tie.After-known-told Inv-loop μ-loop) → 4 + c .before .k .given .0 .0 < length (c .before .before .before .before .before .before .before .before .before .before .before .before .args .stores .now)
-the-mode c =
+mode-at-requires : tie.Need-mode-at-requires Inv-loop μ-loop
+mode-at-requires c κs =
     let s = c .before .before .before .before .before .before .before .before .before .before .before .before in
-    found-at 2 _ (s .pre .1 .1 .0 .table) (c .before .before .before .find .ensures) (s .pre .1 .1 .1) (c .before .k .given .1) .inside
-
-add-name-grade : tie.Need-add-name-grade Inv-loop μ-loop
-add-name-grade c = omega (arith, the-mode c)
-
-shared-slice-read-name-grade : tie.Need-shared-slice-read-name-grade Inv-loop μ-loop
-shared-slice-read-name-grade c = the-mode (c .before)
+    (well-made-laid _ _ (s .pre .1 .1 .0 .table), found-at _ _ (s .pre .1 .1 .0 .table) (c .before .before .before .find .ensures) (c .before .k .given .1) .below)
 
 name-grade-requires : tie.Need-name-grade-requires Inv-loop μ-loop
 name-grade-requires c κs = search needs
@@ -98,11 +91,11 @@ loop-again c =
     let room : l .i < length (l .grades) = omega arith in
     ⊎-elim
     (λ v.
-    let f = found-at 2 _ (s .pre .1 .1 .0 .table) (v .2 .ensures) (s .pre .1 .1 .1) (v .4 .given .1) in (
+    let f = found-at _ _ (s .pre .1 .1 .0 .table) (v .2 .ensures) (v .4 .given .1) in (
       omega arith,
       rw (v .8) (simp length-set (l .inv .1)),
       none-next _ _ _ (l .inv .2) (name-says _ _ _ _ (d .ensures) (v .0 .taken) (v .1 .ensures) (f .known)),
-      rw (v .8) (graded-next _ _ (l .grades) (v .7 .result) (l .inv .3) room (λ x e. rw (v .7 .ensures, ← f .mode) (name-graded _ (s .pre .1 .1 .0 .lone) _ _ _ x (cell-what _ _ _ (d .ensures) ∙ e) (f .entry) (v .0 .taken) (v .1 .ensures) (f .here) (f .named)))),
+      rw (v .8) (graded-next _ _ (l .grades) (v .7 .result) (l .inv .3) room (λ x e. rw (v .7 .ensures, v .6 .ensures (f .entry) (f .at)) (name-graded _ (s .pre .1 .1 .0 .lone) _ _ _ x (cell-what _ _ _ (d .ensures) ∙ e) (f .entry) (v .0 .taken) (v .1 .ensures) (f .here) (f .named)))),
     ))
     (λ v. (
       omega arith,
@@ -136,8 +129,7 @@ grade-leaves-spec =
     enum-told
     same-length
     returns
-    add-name-grade
-    shared-slice-read-name-grade
+    mode-at-requires
     name-grade-requires
     slice-write-grades
     test-grade-requires

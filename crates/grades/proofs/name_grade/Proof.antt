@@ -1,13 +1,14 @@
--- `grades::name_grade` meets its contract: the mode is 2 or it is not. Assumes nothing.
+-- `grades::name_grade` meets its contract: the mode is write-only or it is not. Assumes nothing.
 use borrow.Author.Tests.{eq-eqb, ne-eqb}
+use Rattle.store_table.specs.Stores.{writeOnly}
 use Rattle.grades.proofs.name_grade.Statement.{statement}
 use Rattle.grades.proofs.name_grade.Tie as tie
 
 returns : tie.Need-returns
-returns c = rw (eq-eqb _ 2 (c .if1 .taken))
+returns c = rw (eq-eqb _ writeOnly (c .if1 .taken))
 
 returns-2 : tie.Need-returns-2
-returns-2 c = rw (ne-eqb _ 2 (c .if1 .left))
+returns-2 c = rw (ne-eqb _ writeOnly (c .if1 .left))
 
 pub name-grade-spec : {M : Type 1} → statement M
 name-grade-spec = tie.close (tie.spec returns returns-2)

@@ -6,7 +6,7 @@ use lib.Dec.{leb}
 use lib.ListN.{getD}
 use Rattle.rules.specs.Rule.{Leaf}
 use Rattle.image.specs.Decode.{aLeaf, cellAt}
-use Rattle.store_table.specs.Stores.{Laid, countIn, entriesIn, namesOf}
+use Rattle.store_table.specs.Stores.{Laid, countIn, entriesIn, allNames}
 use Rattle.store_table.specs.Inner.Index.{Indexed, Marked}
 use Rattle.evaluate.specs.Evict.{World, leafSays}
 use Rattle.leaf_answers.specs.declared.View.{View}
@@ -16,11 +16,11 @@ pub record Known (stores list starts slots marks : List ℕ) : Type 0 where
   pub table : Laid stores
   pub listed : Laid list
   pub indexed : Indexed stores (countIn stores) starts slots
-  pub marked : Marked (entriesIn stores) (namesOf 0 255 (entriesIn list)) marks
+  pub marked : Marked (entriesIn stores) (allNames (entriesIn list)) marks
 
 -- the world that a list and a view show
 abbrev pub worldIn : List ℕ → View → World
-worldIn list v = record { age = v .age; ready = v .ready; names = namesOf 0 255 (entriesIn list) }
+worldIn list v = record { age = v .age; ready = v .ready; names = allNames (entriesIn list) }
 
 -- of an image of n nodes, each leaf among the first i says evict in a world just where its number is at least `least`
 abbrev pub SaidTo : List ℕ → ℕ → List ℕ → ℕ → World → ℕ → Type 0

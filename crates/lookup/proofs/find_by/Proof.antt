@@ -21,11 +21,10 @@ begins : (c : tie.Else1) → Standing (c .before .before .before .before .before
 begins c = c .before .before .before .before .before .pre .1 .1 .1 .1 .begins _ (below c)
 
 -- its name lies within the bytes
-inside : (c : tie.After-wide2) → getD (c .before .before .before .before .before .before .before .before .before .args .starts .now) (c .before .before .before .before .before .wide .result - 1) 0 + c .wide2 .result ≤ length (c .before .before .before .before .before .before .before .before .before .args .s .now)
+inside : (c : tie.After-length-at) → getD (c .before .before .before .before .before .before .before .before .args .starts .now) (c .before .before .before .before .wide .result - 1) 0 + c .length-at .result ≤ length (c .before .before .before .before .before .before .before .before .args .s .now)
 inside c =
-    let n = c .before .before in
-    let b = c .before .before .before .before in
-    omega (arith, standing-within (begins b) (omega (arith, below b)) (c .wide2 .ensures .0 ∙ rw (n .count-of .ensures .0)))
+    let b = c .before .before .before in
+    omega (arith, standing-within (begins b) (omega (arith, below b)) (c .length-at .ensures .0))
 
 element-copy-out-wide : tie.Need-element-copy-out-wide
 element-copy-out-wide c = search needs
@@ -53,17 +52,10 @@ cast-at c = omega (arith, begins (c .before) .fills)
 count-of-requires : tie.Need-count-of-requires
 count-of-requires c κs = search needs
 
-add-wide : tie.Need-add-wide
-add-wide c = search needs
-
-add-wide-2 : tie.Need-add-wide-2
-add-wide-2 c = search needs
-
-shared-slice-read-wide : tie.Need-shared-slice-read-wide
-shared-slice-read-wide c = omega (arith, below (c .before .before .before))
-
-wide-requires-2 : tie.Need-wide-requires-2
-wide-requires-2 c κs = search needs
+length-at-requires : tie.Need-length-at-requires
+length-at-requires c κs =
+    let b = c .before .before in
+    (b .before .before .before .before .before .pre .1 .1 .0, (c .count-of .ensures .0, omega (arith, below b, c .count-of .ensures .0)))
 
 add-same-name : tie.Need-add-same-name
 add-same-name c = omega (arith, inside c)
@@ -83,8 +75,8 @@ same-name-requires c κs = search needs
 returns-2 : tie.Need-returns-2
 returns-2 c =
     let w = c .before .before .before in
-    let b = w .before .before .before .before in
-    finds-at (below b) (standing-here (begins b) (omega (arith, below b)) (w .wide2 .ensures .0 ∙ rw (w .before .before .count-of .ensures .0))) (sym (c .before .same-name .ensures) ∙ c .if2 .taken)
+    let b = w .before .before .before in
+    finds-at (below b) (standing-here (begins b) (omega (arith, below b)) (w .length-at .ensures .0)) (sym (c .before .same-name .ensures) ∙ c .if2 .taken)
 
 position-requires : tie.Need-position-requires
 position-requires c κs = search needs
@@ -104,10 +96,7 @@ find-by-spec =
     element-copy-out-at
     cast-at
     count-of-requires
-    add-wide
-    add-wide-2
-    shared-slice-read-wide
-    wide-requires-2
+    length-at-requires
     add-same-name
     sub-same-name
     part-same-name-start

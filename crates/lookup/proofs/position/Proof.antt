@@ -1,12 +1,12 @@
 -- `lookup::position` meets its contract: the name is none of the first k entries'. Assumes nothing.
 use mathlib.Core.Path.{_≡_, refl, sym, _∙_}
 use mathlib.Core.Bool.{false}
-use Prim.Native.Nat.{_+_, _-_, _≤_}
+use Prim.Native.Nat.{_-_, _≤_}
 use native.Mathlib.Omega.{arith}
 use borrow.Author.Needs.{needs}
 use lib.ListN.{take}
 use Rattle.store_table.specs.Names.{has}
-use Rattle.store_table.specs.Stores.{entriesIn, namesOf}
+use Rattle.store_table.specs.Stores.{entriesIn, allNames}
 use Rattle.store_table.proofs.Laws.NamesLaws.{has-next}
 use Rattle.store_table.proofs.Laws.IndexLaws.{finds-none, finds-at}
 use Rattle.store_table.specs.Inner.Index.{Standing}
@@ -15,7 +15,7 @@ use Rattle.lookup.proofs.position.Statement.{statement}
 use Rattle.lookup.proofs.position.Tie as tie
 
 abbrev Inv-loop : tie.InvT-loop
-Inv-loop name s first count k₀ at₀ k at = Standing s count k at × (k ≤ first) × (has name (namesOf 0 255 (take k (entriesIn s))) ≡ false)
+Inv-loop name s first count k₀ at₀ k at = Standing s count k at × (k ≤ first) × (has name (allNames (take k (entriesIn s))) ≡ false)
 
 abbrev μ-loop : tie.MeasureT-loop
 μ-loop name s first count k₀ at₀ k at = first - k
@@ -23,30 +23,18 @@ abbrev μ-loop : tie.MeasureT-loop
 count-of-requires : tie.Need-count-of-requires Inv-loop μ-loop
 count-of-requires c κs = search needs
 
-mul-at : tie.Need-mul-at Inv-loop μ-loop
-mul-at c = omega arith
-
-add-at : tie.Need-add-at Inv-loop μ-loop
-add-at c = omega arith
+names-start-requires : tie.Need-names-start-requires Inv-loop μ-loop
+names-start-requires c κs = search needs
 
 loop-holds : tie.Need-loop-holds Inv-loop μ-loop
-unfolding has namesOf
-loop-holds c = (standing-start _ _ (c .before .before .before .pre .0) (c .count-of .ensures .0), omega arith, refl)
+unfolding has allNames
+loop-holds c = (rw (c .names-start .ensures) (standing-start _ _ (c .before .before .before .before .pre .0) (c .before .count-of .ensures .0)), omega arith, refl)
 
-add-wide : tie.Need-add-wide Inv-loop μ-loop
-add-wide c = omega arith
-
-add-wide-2 : tie.Need-add-wide-2 Inv-loop μ-loop
-add-wide-2 c = omega arith
-
-shared-slice-read-wide : tie.Need-shared-slice-read-wide Inv-loop μ-loop
-shared-slice-read-wide c = omega arith
-
-wide-requires : tie.Need-wide-requires Inv-loop μ-loop
-wide-requires c κs = search needs
+length-at-requires : tie.Need-length-at-requires Inv-loop μ-loop
+length-at-requires c κs = let l = c .before .loop in (l .inv .0 .laid, (l .inv .0 .counted, omega arith))
 
 add-same-name : tie.Need-add-same-name Inv-loop μ-loop
-add-same-name c = omega (arith, standing-within (c .before .before .before .loop .inv .0) (omega arith) (c .wide .ensures .0))
+add-same-name c = omega (arith, standing-within (c .before .before .loop .inv .0) (omega arith) (c .length-at .ensures .0))
 
 sub-same-name : tie.Need-sub-same-name Inv-loop μ-loop
 sub-same-name c = omega arith
@@ -55,7 +43,7 @@ part-same-name-start : tie.Need-part-same-name-start Inv-loop μ-loop
 part-same-name-start c = omega arith
 
 part-same-name-end : tie.Need-part-same-name-end Inv-loop μ-loop
-part-same-name-end c = omega (arith, standing-within (c .before .before .before .loop .inv .0) (omega arith) (c .wide .ensures .0))
+part-same-name-end c = omega (arith, standing-within (c .before .before .loop .inv .0) (omega arith) (c .length-at .ensures .0))
 
 same-name-requires : tie.Need-same-name-requires Inv-loop μ-loop
 same-name-requires c κs = search needs
@@ -63,13 +51,13 @@ same-name-requires c κs = search needs
 returns : tie.Need-returns Inv-loop μ-loop
 returns c =
     let w = c .before .before .before in
-    let e = standing-here (w .before .before .before .loop .inv .0) (omega arith) (w .wide .ensures .0) in
+    let e = standing-here (w .before .before .loop .inv .0) (omega arith) (w .length-at .ensures .0) in
     finds-at (omega arith) e (sym (c .before .same-name .ensures) ∙ c .if1 .taken)
 
-add-at-2 : tie.Need-add-at-2 Inv-loop μ-loop
-add-at-2 c =
+add-at : tie.Need-add-at Inv-loop μ-loop
+add-at c =
     let w = c .before .before .before in
-    omega (arith, standing-within (w .before .before .before .loop .inv .0) (omega arith) (w .wide .ensures .0))
+    omega (arith, standing-within (w .before .before .loop .inv .0) (omega arith) (w .length-at .ensures .0))
 
 add-k : tie.Need-add-k Inv-loop μ-loop
 add-k c = omega arith
@@ -80,17 +68,17 @@ loop-less c = omega arith
 loop-again : tie.Need-loop-again Inv-loop μ-loop
 loop-again c =
     let w = c .before .before .before in
-    let l = w .before .before .before .loop in
-    let e = standing-here (l .inv .0) (omega arith) (w .wide .ensures .0) in (
-      standing-next (l .inv .0) (omega arith) (w .wide .ensures .0),
+    let l = w .before .before .loop in
+    let e = standing-here (l .inv .0) (omega arith) (w .length-at .ensures .0) in (
+      standing-next (l .inv .0) (omega arith) (w .length-at .ensures .0),
       omega arith,
-      has-next _ (l .k) e (omega (arith, w .before .shared-slice-known3 .given (4 + l .k))) _ ∙ rw (← c .before .same-name .ensures, c .if1 .left, l .inv .2),
+      has-next _ (l .k) e _ ∙ rw (← c .before .same-name .ensures, c .if1 .left, l .inv .2),
     )
 
 returns-2 : tie.Need-returns-2 Inv-loop μ-loop
 returns-2 c =
     let l = c .before .loop in
-    let e : l .k ≡ c .before .before .before .before .before .args .first = omega arith in
+    let e : l .k ≡ c .before .before .before .before .before .before .args .first = omega arith in
     finds-none (rw e at (l .inv .2))
 
 pub position-spec : {M : Type 1} → statement M
@@ -100,20 +88,16 @@ position-spec =
     Inv-loop
     μ-loop
     count-of-requires
-    mul-at
-    add-at
+    names-start-requires
     loop-holds
-    add-wide
-    add-wide-2
-    shared-slice-read-wide
-    wide-requires
+    length-at-requires
     add-same-name
     sub-same-name
     part-same-name-start
     part-same-name-end
     same-name-requires
     returns
-    add-at-2
+    add-at
     add-k
     loop-less
     loop-again

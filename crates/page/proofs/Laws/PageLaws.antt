@@ -46,8 +46,8 @@ given {args} {buffer} {r} {n} few m e =
       are = q;
       within = l;
       bytes = b;
-      back = rw b (table-of 2 es (omega arith) most fit .2);
-      laid = rw b (table-laid 2 es (omega arith) most fit);
+      back = rw b (table-of _ es (omega arith) most fit .2);
+      laid = rw b (table-laid _ es (omega arith) most fit);
       small = rw b (omega (arith, table-length es, sum-few es fit));
     }
 

@@ -19,7 +19,7 @@ use Rattle.grammar.specs.Grammar.{after, firstPlace, dueIn, olderThanHead, read
 use Rattle.grammar.specs.Reading.{Read, rule, refused, parseOf, readOf}
 use Rattle.little_endian.specs.Bytes.{leAt}
 use Rattle.store_table.specs.Names.{has}
-use Rattle.store_table.specs.Stores.{sum, allAtMost, wellMade, entriesIn, isReadable, namesOf, readyCount, twinOf}
+use Rattle.store_table.specs.Stores.{sum, allAtMost, wellMade, entriesIn, isReadable, allNames, writeOnlyNames, readyCount, twinOf}
 use Rattle.evaluate.specs.Evict.{evict}
 use Rattle.verdict.specs.Check.{unknownIn, checkRule, judgeOf}
 use Rattle.verdict.specs.declared.Verdict.{Verdict}
@@ -101,7 +101,7 @@ rows =
 
 -- by computation, over all rows at once
 rows-computed : map answerOf rows ≡ map expected rows
-unfolding answerOf expected run runEnd part lower equalBy classOf ofClass other doubled quotedTo quotedAt bareTo bareAt tokenOf startAt tokenAt nextOf tokensBy tokensFrom scanOf countOf durationOf ascii placeOf size after firstPlace dueIn olderThanHead readableHead atLeastHead functionOf bareLeaf headIn leftRules chain orIn parseOf readOf leAt allAscii has sum allAtMost wellMade entriesIn isReadable namesOf readyCount twinOf evict unknownIn checkRule judgeOf durationText textOf digitsOf
+unfolding answerOf expected run runEnd part lower equalBy classOf ofClass other doubled quotedTo quotedAt bareTo bareAt tokenOf startAt tokenAt nextOf tokensBy tokensFrom scanOf countOf durationOf ascii placeOf size after firstPlace dueIn olderThanHead readableHead atLeastHead functionOf bareLeaf headIn leftRules chain orIn parseOf readOf leAt allAscii has sum allAtMost wellMade entriesIn isReadable allNames writeOnlyNames readyCount twinOf evict unknownIn checkRule judgeOf durationText textOf digitsOf
 rows-computed = refl
 
 -- each row holds

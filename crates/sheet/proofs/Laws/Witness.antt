@@ -19,7 +19,7 @@ use Rattle.rules.specs.Rule.{Rule, size}
 use Rattle.grammar.specs.Grammar.{after, firstPlace, dueIn, olderThanHead, readableHead, atLeastHead, functionOf, bareLeaf, headIn, leftRules, chain, orIn}
 use Rattle.grammar.specs.Reading.{rule, parseOf, readOf}
 use Rattle.store_table.specs.Names.{has}
-use Rattle.store_table.specs.Stores.{sum, allAtMost, wellMade, countIn, entriesIn, isReadable, namesOf, readyCount, twinOf}
+use Rattle.store_table.specs.Stores.{sum, allAtMost, wellMade, countIn, entriesIn, isReadable, allNames, writeOnlyNames, readyCount, twinOf}
 use Rattle.store_table.specs.declared.Twin.the-variants.{No}
 use Rattle.store_table.proofs.Laws.DistinctLaws.{no-twin-distinct}
 use Rattle.evaluate.specs.Evict.{evict}
@@ -51,7 +51,7 @@ abbrev pub text : List ℕ
 text = bytes "older_than(30d) && readable(1)"
 
 passes : judgeOf text home ≡ Pass
-unfolding run runEnd part lower equalBy classOf ofClass other doubled quotedTo quotedAt bareTo bareAt tokenOf startAt tokenAt nextOf tokensBy tokensFrom scanOf countOf durationOf ascii placeOf size after firstPlace dueIn olderThanHead readableHead atLeastHead functionOf bareLeaf headIn leftRules chain orIn parseOf readOf leAt allAscii has sum allAtMost wellMade entriesIn isReadable namesOf readyCount twinOf evict unknownIn checkRule judgeOf
+unfolding run runEnd part lower equalBy classOf ofClass other doubled quotedTo quotedAt bareTo bareAt tokenOf startAt tokenAt nextOf tokensBy tokensFrom scanOf countOf durationOf ascii placeOf size after firstPlace dueIn olderThanHead readableHead atLeastHead functionOf bareLeaf headIn leftRules chain orIn parseOf readOf leAt allAscii has sum allAtMost wellMade entriesIn isReadable allNames writeOnlyNames readyCount twinOf evict unknownIn checkRule judgeOf
 passes = refl
 
 -- the text reads as a rule that names only stores of the table, and is safe for it

@@ -10,7 +10,7 @@ use lib.Dec.{eqb, ltb}
 use lib.ListN.{length, take}
 use Rattle.slices.specs.Text.{bytes, allAscii}
 use Rattle.ascii.specs.Letters.{equal}
-use Rattle.store_table.specs.Stores.{Entry}
+use Rattle.store_table.specs.Stores.{Entry, readWrite, readOnly, writeOnly}
 use Rattle.store_table.proofs.Laws.TableBytesLaws.{Fit, AllFit}
 use Rattle.store_args.specs.Arguments.{split, Given, store, wrong, named, modeTested, colonTested, givenBy, behindColon, Stores, stores, wrongAt, before, storesFrom, storesIn}
 use Rattle.store_args.specs.declared.Fault.{Fault}
@@ -18,7 +18,7 @@ use Rattle.store_args.specs.declared.Fault.the-variants.{LongName, Forei
 
 -- ---- a store that is given fits a table
 abbrev Fits : Given → Type 0
-Fits g = (e : Entry) → g ≡ store e → Fit 2 e
+Fits g = (e : Entry) → g ≡ store e → Fit writeOnly e
 
 wrong-fits : (f : Fault) → Fits (wrong f)
 wrong-fits f e p = absurd (let z : _≡_ {A = ℕ} 0 1 = cc in omega arith)
@@ -27,7 +27,7 @@ either : (v : Bool) {a b : Given} → Fits a → Fits b → Fits (cond v a b)
 either true p q = p
 either false p q = q
 
-named-fits : (mode : ℕ) (name : List ℕ) → mode ≤ 2 → Fits (named mode name)
+named-fits : (mode : ℕ) (name : List ℕ) → mode ≤ writeOnly → Fits (named mode name)
 unfolding named
 named-fits mode name h = go (ltb 255 (length name)) refl (allAscii name) refl
   where
@@ -39,9 +39,9 @@ named-fits mode name h = go (ltb 255 (length name)) refl (allAscii name) refl
 mode-fits : (word name : List ℕ) → Fits (modeTested word name)
 unfolding modeTested
 mode-fits word name =
-    either (equal word (bytes "read-write")) (named-fits 0 name (omega arith))
-    (either (equal word (bytes "read-only")) (named-fits 1 name (omega arith))
-    (either (equal word (bytes "write-only")) (named-fits 2 name (omega arith)) (wrong-fits _)))
+    either (equal word (bytes "read-write")) (named-fits readWrite name (omega arith))
+    (either (equal word (bytes "read-only")) (named-fits readOnly name (omega arith))
+    (either (equal word (bytes "write-only")) (named-fits writeOnly name (omega arith)) (wrong-fits _)))
 
 pub given-fits : (w : List ℕ) → Fits (givenBy w)
 unfolding givenBy colonTested
@@ -49,7 +49,7 @@ given-fits w = either (ltb 266 (length w)) (wrong-fits _) (either (eqb (behindCo
 
 -- ---- all stores that n arguments give
 abbrev All : ℕ → Stores → Type 0
-All n r = (es : List Entry) → r ≡ stores es → AllFit 2 es × (length es ≡ n)
+All n r = (es : List Entry) → r ≡ stores es → AllFit writeOnly es × (length es ≡ n)
 
 wrong-all : (n i : ℕ) (f : Fault) → All n (wrongAt i f)
 wrong-all n i f es x = absurd (let z : _≡_ {A = ℕ} 0 1 = cc in omega arith)
@@ -68,7 +68,7 @@ all-from i [] es x = let y : es ≡ [] = cc in rw y (λ d m. absurd (List·Mem�
 all-from i (w ∷ ws) es x = one-more (givenBy w) i (storesFrom (suc i) ws) (length ws) (given-fits w) (all-from (suc i) ws) es x
 
 module _ (args : List ℕ) (es : List Entry) (e : storesIn args ≡ stores es) where
-  pub stores-fit : AllFit 2 es
+  pub stores-fit : AllFit writeOnly es
   unfolding storesIn
   stores-fit = all-from 1 (split args) es e .0
 

@@ -10,6 +10,7 @@ use lib.Seq.{length-take-le, take-all}
 use Rattle.slices.specs.Text.{bytes, allAscii}
 use Rattle.ascii.specs.Letters.{equal}
 use Rattle.slices.specs.Written.{Put}
+use Rattle.store_table.specs.Stores.{readWrite, readOnly, writeOnly}
 use Rattle.store_args.specs.Arguments as arguments
 use Rattle.store_args.specs.Arguments.{wrong, named, modeTested, behindColon, colonTested, givenBy}
 use Rattle.store_args.specs.Inner.Filling.{Is, Arrays, arrays, OneOf}
@@ -42,7 +43,7 @@ module _ (w : List ℕ) (mode end : ℕ) (h : end ≤ length w) where
 pub is-mode : {w : List ℕ} {r : Given} (name : List ℕ) (from : ℕ) {b₀ b₁ b₂ : Bool} →
     let word = take (length w - from) (drop from w) in
     equal word (bytes "read-write") ≡ b₀ → equal word (bytes "read-only") ≡ b₁ → equal word (bytes "write-only") ≡ b₂ →
-    Is w r (cond b₀ (named 0 name) (cond b₁ (named 1 name) (cond b₂ (named 2 name) (wrong NoMode)))) → Is w r (modeTested (drop from w) name)
+    Is w r (cond b₀ (named readWrite name) (cond b₁ (named readOnly name) (cond b₂ (named writeOnly name) (wrong NoMode)))) → Is w r (modeTested (drop from w) name)
 unfolding modeTested
 is-mode {w} name from e₀ e₁ e₂ x = rw (← take-all (length w - from) (drop from w) (rw length-drop (omega arith)), e₀, e₁, e₂) x
 

@@ -7,7 +7,7 @@ use lib.ListN.{length, take}
 use Rattle.slices.specs.Written.{written, Put}
 use Rattle.slices.proofs.Laws.WrittenLaws.{put-front, put-behind}
 use Rattle.little_endian.specs.Bytes.{leBytes}
-use Rattle.store_table.specs.Stores.{Entry}
+use Rattle.store_table.specs.Stores.{countStart, totalStart, modesStart, Entry}
 use Rattle.store_table.specs.TableBytes.{modes, lengths, joined, tableOf}
 use Rattle.store_table.proofs.Laws.TableBytesLaws.{length-joined, sum-few}
 use Rattle.store_args.specs.Arguments.{split, Stores, storesIn}
@@ -32,13 +32,13 @@ module _ {s : Stores} {a : Arrays} {r : Filled} (f : FilledBy s a r) where
       }
 
   -- the parts stand one behind the other
-  pub made-table : {count used m l n : ℕ} (t : List ℕ) {t₁ t₂ t₃ t₄ t₅ : List ℕ} → r ≡ All count used → t₁ ≡ written t 0 (leBytes 2 count) → t₂ ≡ written t₁ 2 (leBytes 2 used) → Put t₂ t₃ 4 m (take count (a .modes)) → Put t₃ t₄ m l (take count (a .lengths)) → Put t₄ t₅ l n (take used (a .names)) → n ≤ length t₅ → MadeOf s t₅ (Table n)
+  pub made-table : {count used m l n : ℕ} (t : List ℕ) {t₁ t₂ t₃ t₄ t₅ : List ℕ} → r ≡ All count used → t₁ ≡ written t countStart (leBytes 2 count) → t₂ ≡ written t₁ totalStart (leBytes 2 used) → Put t₂ t₃ modesStart m (take count (a .modes)) → Put t₃ t₄ m l (take count (a .lengths)) → Put t₄ t₅ l n (take used (a .names)) → n ≤ length t₅ → MadeOf s t₅ (Table n)
   unfolding leBytes
   made-table {count} {used} {n} t {t₁} {t₂} q e₁ e₂ p₃ p₄ p₅ h =
       let w = f .filled count used q in
-      let p₁ : Put t t₁ 0 2 (leBytes 2 count) = record { ends = refl; text = e₁ } in
-      let p₂ : Put t₁ t₂ 2 4 (leBytes 2 used) = record { ends = refl; text = e₂ } in
-      let z : 0 ≤ length t = omega arith in
+      let p₁ : Put t t₁ countStart totalStart (leBytes 2 count) = record { ends = refl; text = e₁ } in
+      let p₂ : Put t₁ t₂ totalStart modesStart (leBytes 2 used) = record { ends = refl; text = e₂ } in
+      let z : countStart ≤ length t = omega arith in
       let e = put-front z (put-behind z (put-behind z (put-behind z (put-behind z p₁ p₂) p₃) p₄) p₅) in
       record {
         made = λ k p. let y : k ≡ n = cc in rw y (h, (w .0, (w .1 .0, e ∙ parts (w .1 .1))));

@@ -4,7 +4,7 @@ use Prim.Native.Nat.{ℕ, _+_, _-_, _*_, _≤_}
 use native.Mathlib.Omega.{arith}
 use borrow.Author.Needs.{needs}
 use lib.ListN.{length}
-use Rattle.store_table.specs.Stores.{countIn, entriesIn}
+use Rattle.store_table.specs.Stores.{countIn, entriesIn, namesStart}
 use Rattle.store_table.proofs.Laws.EntriesLaws.{Seen, seen-start, seen-end, seen-yes, seen-no}
 use Rattle.store_table.proofs.Laws.WalkLaws.{length-entries, standing-start, standing-within, standing-next, standing-here}
 use Rattle.store_table.proofs.Laws.MemberLaws.{same-eq}
@@ -16,40 +16,28 @@ use Rattle.store_index.proofs.twin_of.Tie as tie
 
 abbrev Inv-loop : tie.InvT-loop
 Inv-loop stores starts₀ slots₀ count k₀ at₀ starts slots k at =
-    Standing stores count k at × Seen (entriesIn stores) k × Indexed stores k starts slots × (at ≤ 4 + 2 * count + 255 * k) × (k ≤ count)
+    Standing stores count k at × Seen (entriesIn stores) k × Indexed stores k starts slots × (at ≤ namesStart count + 255 * k) × (k ≤ count)
 
 abbrev μ-loop : tie.MeasureT-loop
 μ-loop stores starts₀ slots₀ count k₀ at₀ starts slots k at = count - k
 
 -- the name of store k lies within the bytes
-inside : (c : tie.After-wide Inv-loop μ-loop) → c .before .before .before .loop .at + c .wide .result ≤ length (c .before .before .before .before .before .before .args .stores .now)
-inside c = omega (arith, standing-within (c .before .before .before .loop .inv .0) (c .before .before .loop-test .taken) (c .wide .ensures .0))
+inside : (c : tie.After-length-at Inv-loop μ-loop) → c .before .before .loop .at + c .length-at .result ≤ length (c .before .before .before .before .before .before .args .stores .now)
+inside c = omega (arith, standing-within (c .before .before .loop .inv .0) (c .before .loop-test .taken) (c .length-at .ensures .0))
 
 count-of-requires : tie.Need-count-of-requires Inv-loop μ-loop
 count-of-requires c κs = search needs
 
-mul-at : tie.Need-mul-at Inv-loop μ-loop
-mul-at c = omega arith
-
-add-at : tie.Need-add-at Inv-loop μ-loop
-add-at c = omega arith
+names-start-requires : tie.Need-names-start-requires Inv-loop μ-loop
+names-start-requires c κs = search needs
 
 loop-holds : tie.Need-loop-holds Inv-loop μ-loop
 loop-holds c =
-    let p = c .before .before .pre in
-    (standing-start _ _ (p .0) (c .count-of .ensures .0), seen-start _, indexed-start _ _ _ (p .1), omega arith, omega arith)
+    let p = c .before .before .before .pre in
+    (rw (c .names-start .ensures) (standing-start _ _ (p .0) (c .before .count-of .ensures .0)), seen-start _, indexed-start _ _ _ (p .1), omega arith, omega arith)
 
-add-wide : tie.Need-add-wide Inv-loop μ-loop
-add-wide c = omega arith
-
-add-wide-2 : tie.Need-add-wide-2 Inv-loop μ-loop
-add-wide-2 c = omega arith
-
-shared-slice-read-wide : tie.Need-shared-slice-read-wide Inv-loop μ-loop
-shared-slice-read-wide c = omega arith
-
-wide-requires : tie.Need-wide-requires Inv-loop μ-loop
-wide-requires c κs = search needs
+length-at-requires : tie.Need-length-at-requires Inv-loop μ-loop
+length-at-requires c κs = let l = c .before .loop in (l .inv .0 .laid, (l .inv .0 .counted, omega arith))
 
 add-name : tie.Need-add-name Inv-loop μ-loop
 add-name c = omega (arith, inside c)
@@ -69,7 +57,7 @@ hash-of-requires c κs = search needs
 find-by-requires : tie.Need-find-by-requires Inv-loop μ-loop
 find-by-requires c κs =
     let h = c .before .before .hash-of .ensures in
-    let l = c .before .before .before .before .before .before .before .loop in
+    let l = c .before .before .before .before .before .before .loop in
     (h .0, (h .1, (l .inv .0 .laid, (omega arith, l .inv .2))))
 
 enum-told : tie.Need-enum-told Inv-loop μ-loop
@@ -78,10 +66,10 @@ enum-told c = search needs
 returns : tie.Need-returns Inv-loop μ-loop
 returns c =
     let w = c .before .before .before .before .before .before .before in
-    let l = w .before .before .before .loop in
-    let e = standing-here (l .inv .0) (w .before .before .loop-test .taken) (w .wide .ensures .0) in
+    let l = w .before .before .loop in
+    let e = standing-here (l .inv .0) (w .before .loop-test .taken) (w .length-at .ensures .0) in
     let f = c .before .before .find-by .ensures .there _ (c .enum-told .given .1) in
-    (seen-yes (l .inv .1) e (rw (same-eq _ _ (f .1 .1 .1)) (has-at _ (λ i. omega (arith, w .before .shared-slice-known2 .given i)) _ _ (f .0) (f .1 .1 .0))), λ z. absurd (let o : _≡_ {A = ℕ} 0 1 = cc in omega arith))
+    (seen-yes (l .inv .1) e (rw (same-eq _ _ (f .1 .1 .1)) (has-at _ _ _ (f .0) (f .1 .1 .0))), λ z. absurd (let o : _≡_ {A = ℕ} 0 1 = cc in omega arith))
 
 enum-told-2 : tie.Need-enum-told-2 Inv-loop μ-loop
 enum-told-2 c = search needs
@@ -91,8 +79,8 @@ enter-requires c κs =
     let h = c .before .before .before .before .before .before .before .hash-of .ensures in
     ((omega (arith, c .before .enter-arg .given .0 .1), omega (arith, c .enter-arg2 .given .0 .1)), (omega arith, omega arith))
 
-add-at-2 : tie.Need-add-at-2 Inv-loop μ-loop
-add-at-2 c = omega (arith, inside (c .before .before .before .before .before .before .before .before .before .before))
+add-at : tie.Need-add-at Inv-loop μ-loop
+add-at c = omega (arith, inside (c .before .before .before .before .before .before .before .before .before .before))
 
 add-k : tie.Need-add-k Inv-loop μ-loop
 add-k c = omega arith
@@ -103,22 +91,21 @@ loop-less c = omega arith
 loop-again : tie.Need-loop-again Inv-loop μ-loop
 loop-again c =
     let w = c .before .before .before .before .before .before .before .before .before .before in
-    let l = w .before .before .before .loop in
-    let lt = w .before .before .loop-test .taken in
-    let e = standing-here (l .inv .0) lt (w .wide .ensures .0) in
-    let low = w .before .shared-slice-known2 .given (4 + l .k) in
+    let l = w .before .before .loop in
+    let lt = w .before .loop-test .taken in
+    let e = standing-here (l .inv .0) lt (w .length-at .ensures .0) in
     let h = c .before .before .before .before .before .before .before .before in
     let f = c .before .before .before .before .before .find-by .ensures .missing (c .before .before .before .enum-told2 .given .1) in (
-      standing-next (l .inv .0) lt (w .wide .ensures .0),
-      seen-no (l .inv .1) e f (omega arith),
-      rw (c .enter .ensures .0, c .enter .ensures .1) (indexed-next (l .inv .2) (l .inv .0) e (omega arith) (h .hash-of .ensures .0) (omega (arith, c .before .before .enter-arg .given .0 .1)) (omega (arith, c .before .enter-arg2 .given .0 .1))),
+      standing-next (l .inv .0) lt (w .length-at .ensures .0),
+      seen-no (l .inv .1) e f,
+      rw (c .enter .ensures .0, c .enter .ensures .1) (indexed-next (l .inv .2) (l .inv .0) e (h .hash-of .ensures .0) (omega (arith, c .before .before .enter-arg .given .0 .1)) (omega (arith, c .before .enter-arg2 .given .0 .1))),
       omega arith,
       omega arith,
     )
 
 returns-2 : tie.Need-returns-2 Inv-loop μ-loop
 returns-2 c =
-    let s = c .before .before .before .before in
+    let s = c .before .before .before .before .before in
     let q : c .before .loop .k ≡ countIn (s .args .stores .now) = omega arith in
     (seen-end (c .before .loop .inv .1) (omega (arith, length-entries (s .args .stores .now) (s .pre .0))), λ z. rw q at (c .before .loop .inv .2))
 
@@ -129,13 +116,9 @@ twin-of-spec =
     Inv-loop
     μ-loop
     count-of-requires
-    mul-at
-    add-at
+    names-start-requires
     loop-holds
-    add-wide
-    add-wide-2
-    shared-slice-read-wide
-    wide-requires
+    length-at-requires
     add-name
     sub-name
     part-name-start
@@ -146,7 +129,7 @@ twin-of-spec =
     returns
     enum-told-2
     enter-requires
-    add-at-2
+    add-at
     add-k
     loop-less
     loop-again

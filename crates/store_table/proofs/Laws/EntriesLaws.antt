@@ -8,7 +8,7 @@ use native.Mathlib.Omega.{arith}
 use borrow.Author.Tests.{le-leb, lt-leb}
 use lib.ListN.{length, getD, take, drop, drop-of-length-le}
 use Rattle.store_table.specs.Names.{has}
-use Rattle.store_table.specs.Stores.{Entry, isReadable, namesOf, readyCount, twinFrom, twinOf}
+use Rattle.store_table.specs.Stores.{Entry, isReadable, allNames, readyCount, twinFrom, twinOf}
 use Rattle.store_table.proofs.Laws.NamesLaws.{has-next}
 use Rattle.store_table.specs.Inner.Index.{EntryAt, Marked}
 use Rattle.store_table.specs.declared.Twin.the-variants.{No, At}
@@ -48,11 +48,11 @@ module _ {es : List Entry} {marks : List ℕ} {k ready : ℕ} (h : Ready es mark
 -- ---- a twin is looked for: the names seen are those of the first k, whatever their modes, in another order
 pub record Seen (es : List Entry) (k : ℕ) : Type 0 where
   pub names : List (List ℕ)
-  pub same : (w : List ℕ) → has w names ≡ has w (namesOf 0 255 (take k es))
+  pub same : (w : List ℕ) → has w names ≡ has w (allNames (take k es))
   pub rest : twinFrom names k (drop k es) ≡ twinOf es
 
 pub seen-start : (es : List Entry) → Seen es 0
-unfolding namesOf twinOf
+unfolding allNames twinOf
 seen-start es = record { names = []; same = λ w. refl; rest = refl }
 
 module _ {es : List Entry} {k : ℕ} (h : Seen es k) where
@@ -61,15 +61,15 @@ module _ {es : List Entry} {k : ℕ} (h : Seen es k) where
   seen-end le = rw (drop-of-length-le es le) at (h .rest)
 
   module _ {x : Entry} (e : drop k es ≡ x ∷ drop (k + 1) es) where
-    pub seen-yes : has (x .name) (namesOf 0 255 (take k es)) ≡ true → At k ≡ twinOf es
+    pub seen-yes : has (x .name) (allNames (take k es)) ≡ true → At k ≡ twinOf es
     unfolding twinFrom
     seen-yes p = rw (e, h .same (x .name), p) at (h .rest)
 
-    pub seen-no : has (x .name) (namesOf 0 255 (take k es)) ≡ false → x .mode ≤ 255 → Seen es (k + 1)
+    pub seen-no : has (x .name) (allNames (take k es)) ≡ false → Seen es (k + 1)
     unfolding twinFrom has
-    seen-no p low =
+    seen-no p =
         record {
           names = x .name ∷ h .names;
-          same = λ w. rw (has-next es k e low w, h .same w);
+          same = λ w. rw (has-next es k e w, h .same w);
           rest = rw add-one (rw (e, h .same (x .name), p, add-one) at (h .rest));
         }

@@ -1,58 +1,65 @@
--- What is known of each entry of a well-made table or list, the names of entries by mode, and that no two entries have one name where there is no
+-- What is known of each entry of a well-made table or list, the names of entries, and that no two entries have one name where there is no
 -- twin. Assumes nothing.
 use mathlib.Core.Path.{_≡_, refl, sym, ap, _∙_}
 use mathlib.Core.Bool.{Bool, true, false, cond, _&&_, _||_, true≢false, and-eq-true-iff}
 use mathlib.Core.Logic.{_⊎_, inl, inr}
-use mathlib.Core.List.{List, [], _∷_, List·Memᴰ, List·Memᴰ·head, List·Memᴰ·tail, List·Memᴰ·not-nil, Memᴰ·append-right}
+use mathlib.Core.List.{List, [], _∷_, List·Memᴰ, List·Memᴰ·head, List·Memᴰ·tail, List·Memᴰ·not-nil, Memᴰ·append-right, Memᴰ·map, Memᴰ·of-map}
 use Prim.Native.Nat.{ℕ, zero, suc, _+_, _-_, _≤_, _<_}
 use native.Mathlib.Omega.{arith}
-use borrow.Author.Tests.{leb-true, le-leb}
-use lib.Dec.{leb}
+use borrow.Author.Tests.{leb-true, eqb-true}
+use lib.Dec.{eqb, leb}
 use lib.ListN.{length, take, drop, length-take, length-drop}
 use lib.Seq.{drop-nil, take-add, take-length}
-use Rattle.ascii.specs.Letters.{within}
+use Rattle.little_endian.specs.Bytes.{AllBytes}
 use Rattle.little_endian.proofs.Laws.BytesLaws.{bytes-at}
 use Rattle.slices.specs.Text.{allAscii, AllBytes}
 use Rattle.slices.proofs.Laws.AsciiLaws.{take-ascii, drop-ascii}
 use Rattle.store_table.specs.Names.{sameName, has}
 use Rattle.store_table.proofs.Laws.MemberLaws.{mem-has}
-use Rattle.store_table.specs.Stores.{Entry, entriesFrom, entriesIn, countIn, modesIn, lengthsIn, nameBytesIn, allAtMost, wellMade, isReadable, namesOf, readyCount, twinFrom, twinOf}
+use Rattle.store_table.specs.Stores.{lengthsStart, writeOnly, Entry, entriesFrom, entriesIn, countIn, modesIn, lengthsIn, nameBytesIn, allAtMost, wellMade, isReadable, allNames, writeOnlyNames, readyCount, twinFrom, twinOf}
 use Rattle.store_table.proofs.Laws.StoresLaws.{made}
 use Rattle.store_table.specs.declared.Twin.{Twin}
 use Rattle.store_table.specs.declared.Twin.the-variants.{No, At}
 
--- ---- the names of the entries whose mode is from lo up to hi: an entry stands behind each, and each such entry has its name among them
-pub name-entry : (lo hi : ℕ) (w : List ℕ) (es : List Entry) → List·Memᴰ w (namesOf lo hi es) → (e : Entry) × List·Memᴰ e es × (lo ≤ e .mode) × (e .mode ≤ hi) × (e .name ≡ w)
-unfolding namesOf
-name-entry lo hi w [] m = absurd (List·Memᴰ·not-nil m)
-name-entry lo hi w (x ∷ es) m = go (within lo hi (x .mode)) refl (name-entry lo hi w es) m
-  where
-    go : (b : Bool) → within lo hi (x .mode) ≡ b → (List·Memᴰ w (namesOf lo hi es) → (e : Entry) × List·Memᴰ e es × (lo ≤ e .mode) × (e .mode ≤ hi) × (e .name ≡ w)) →
-        List·Memᴰ w (cond b (x .name ∷ namesOf lo hi es) (namesOf lo hi es)) →
-        (e : Entry) × List·Memᴰ e (x ∷ es) × (lo ≤ e .mode) × (e .mode ≤ hi) × (e .name ≡ w)
-    go true t below (List·Memᴰ·head p) =
-        let i = and-eq-true-iff (leb lo (x .mode)) (leb (x .mode) hi) .0 t in
-        (x, List·Memᴰ·head refl, leb-true lo (x .mode) (i .0), leb-true (x .mode) hi (i .1), sym p)
-    go true t below (List·Memᴰ·tail k) = let (e, i, low, high, n) = below k in (e, List·Memᴰ·tail i, low, high, n)
-    go false t below k = let (e, i, low, high, n) = below k in (e, List·Memᴰ·tail i, low, high, n)
+-- ---- the names of entries: an entry stands behind each, and each entry has its name among them
+pub name-entry : (w : List ℕ) (es : List Entry) → List·Memᴰ w (allNames es) → (e : Entry) × List·Memᴰ e es × (e .name ≡ w)
+unfolding allNames
+name-entry w es m = Memᴰ·of-map _ es m
 
-pub entry-named : (lo hi : ℕ) (e : Entry) (es : List Entry) → List·Memᴰ e es → lo ≤ e .mode → e .mode ≤ hi → List·Memᴰ (e .name) (namesOf lo hi es)
-unfolding namesOf
-entry-named lo hi e es (List·Memᴰ·head {x} {xs} p) low high =
-    rw (← ap (λ (t : Entry). t .mode) p, le-leb lo (e .mode) low, le-leb (e .mode) hi high) (List·Memᴰ·head (ap (λ (t : Entry). t .name) p))
-entry-named lo hi e es (List·Memᴰ·tail {x} {xs} m) low high = go (within lo hi (x .mode)) (entry-named lo hi e xs m low high)
+pub entry-named : (e : Entry) (es : List Entry) → List·Memᴰ e es → List·Memᴰ (e .name) (allNames es)
+unfolding allNames
+entry-named e es m = Memᴰ·map _ m
+
+-- ---- the names of the write-only ones: such an entry stands behind each, and each such entry has its name among them
+pub write-only-entry : (w : List ℕ) (es : List Entry) → List·Memᴰ w (writeOnlyNames es) → (e : Entry) × List·Memᴰ e es × (e .mode ≡ writeOnly) × (e .name ≡ w)
+unfolding writeOnlyNames
+write-only-entry w [] m = absurd (List·Memᴰ·not-nil m)
+write-only-entry w (x ∷ es) m = go (eqb (x .mode) writeOnly) refl (write-only-entry w es) m
   where
-    go : (b : Bool) → List·Memᴰ (e .name) (namesOf lo hi xs) → List·Memᴰ (e .name) (cond b (x .name ∷ namesOf lo hi xs) (namesOf lo hi xs))
+    go : (b : Bool) → eqb (x .mode) writeOnly ≡ b → (List·Memᴰ w (writeOnlyNames es) → (e : Entry) × List·Memᴰ e es × (e .mode ≡ writeOnly) × (e .name ≡ w)) →
+        List·Memᴰ w (cond b (x .name ∷ writeOnlyNames es) (writeOnlyNames es)) →
+        (e : Entry) × List·Memᴰ e (x ∷ es) × (e .mode ≡ writeOnly) × (e .name ≡ w)
+    go true t below (List·Memᴰ·head p) = (x, List·Memᴰ·head refl, eqb-true (x .mode) writeOnly t, sym p)
+    go true t below (List·Memᴰ·tail k) = let (e, i, only, n) = below k in (e, List·Memᴰ·tail i, only, n)
+    go false t below k = let (e, i, only, n) = below k in (e, List·Memᴰ·tail i, only, n)
+
+pub entry-write-only : (e : Entry) (es : List Entry) → List·Memᴰ e es → e .mode ≡ writeOnly → List·Memᴰ (e .name) (writeOnlyNames es)
+unfolding writeOnlyNames
+entry-write-only e es (List·Memᴰ·head {x} {xs} p) only =
+    rw (← ap (λ (t : Entry). t .mode) p, only) (List·Memᴰ·head (ap (λ (t : Entry). t .name) p))
+entry-write-only e es (List·Memᴰ·tail {x} {xs} m) only = go (eqb (x .mode) writeOnly) (entry-write-only e xs m only)
+  where
+    go : (b : Bool) → List·Memᴰ (e .name) (writeOnlyNames xs) → List·Memᴰ (e .name) (cond b (x .name ∷ writeOnlyNames xs) (writeOnlyNames xs))
     go true k = List·Memᴰ·tail k
     go false k = k
 
 -- and there are no more of them than entries
-pub names-few : (lo hi : ℕ) (es : List Entry) → length (namesOf lo hi es) ≤ length es
-unfolding namesOf
-names-few lo hi [] = omega arith
-names-few lo hi (e ∷ es) = go (within lo hi (e .mode)) (names-few lo hi es)
+pub write-only-few : (es : List Entry) → length (writeOnlyNames es) ≤ length es
+unfolding writeOnlyNames
+write-only-few [] = omega arith
+write-only-few (e ∷ es) = go (eqb (e .mode) writeOnly) (write-only-few es)
   where
-    go : (b : Bool) → length (namesOf lo hi es) ≤ length es → length (cond b (e .name ∷ namesOf lo hi es) (namesOf lo hi es)) ≤ suc (length es)
+    go : (b : Bool) → length (writeOnlyNames es) ≤ length es → length (cond b (e .name ∷ writeOnlyNames es) (writeOnlyNames es)) ≤ suc (length es)
     go true h = omega arith
     go false h = omega arith
 
@@ -67,6 +74,10 @@ at-take es first k {x} lt e =
 
 pub at-mem : (es : List Entry) (k : ℕ) {x : Entry} {xs : List Entry} → drop k es ≡ x ∷ xs → List·Memᴰ x es
 at-mem es k e = rw take-length at (at-take es (length es) k (at-below es k e) e)
+
+-- so each of the first entries has its name among theirs
+pub has-at : (es : List Entry) (first k : ℕ) {x : Entry} {xs : List Entry} → k < first → drop k es ≡ x ∷ xs → has (x .name) (allNames (take first es)) ≡ true
+has-at es first k {x} lt e = mem-has (entry-named x (take first es) (at-take es first k lt e))
 
 -- ---- no two entries of one name where there is no twin
 no-twin : (b : Bool) (i : ℕ) (r : Twin) → cond b (At i) r ≡ No → (b ≡ false) × (r ≡ No)
@@ -156,20 +167,6 @@ pub entry-mode : (most : ℕ) (s : List ℕ) → wellMade most s ≡ true → (e
 unfolding entriesIn
 entry-mode most s h = mode-from most (modesIn s) (lengthsIn s) (nameBytesIn s) (made most s h .modes)
 
--- of any bytes, a mode is a byte
-bytes-most : (ms : List ℕ) → AllBytes ms → allAtMost 255 ms ≡ true
-unfolding allAtMost
-bytes-most [] b = refl
-bytes-most (m ∷ ms) b = rw (le-leb m 255 (omega (arith, b 0))) (bytes-most ms (λ i. b (suc i)))
-
-pub entry-byte : (s : List ℕ) → AllBytes s → (e : Entry) → List·Memᴰ e (entriesIn s) → e .mode ≤ 255
-unfolding entriesIn
-entry-byte s b = mode-from 255 (modesIn s) (lengthsIn s) (nameBytesIn s) (bytes-most (modesIn s) (bytes-at s 4 (countIn s) b))
-
--- so each of the first entries has its name among theirs
-pub has-at : (s : List ℕ) → AllBytes s → (first k : ℕ) {x : Entry} {xs : List Entry} → k < first → drop k (entriesIn s) ≡ x ∷ xs → has (x .name) (namesOf 0 255 (take first (entriesIn s))) ≡ true
-has-at s b first k {x} lt e = mem-has (entry-named 0 255 x (take first (entriesIn s)) (at-take (entriesIn s) first k lt e) (omega arith) (entry-byte s b x (at-mem (entriesIn s) k e)))
-
 name-from : (ms ls bs : List ℕ) → AllBytes ls → allAscii bs ≡ true → (e : Entry) → List·Memᴰ e (entriesFrom ms ls bs) → (length (e .name) ≤ 255) × (allAscii (e .name) ≡ true)
 unfolding entriesFrom
 name-from [] ls bs b a e m = absurd (List·Memᴰ·not-nil m)
@@ -180,4 +177,4 @@ name-from (m ∷ ms) (l ∷ ls) bs b a e (List·Memᴰ·tail k) = name-from ms l
 pub entry-name : (most : ℕ) (s : List ℕ) → AllBytes s → wellMade most s ≡ true → (e : Entry) → List·Memᴰ e (entriesIn s) → (length (e .name) ≤ 255) × (allAscii (e .name) ≡ true)
 unfolding entriesIn
 entry-name most s b h =
-    name-from (modesIn s) (lengthsIn s) (nameBytesIn s) (bytes-at s (4 + countIn s) (countIn s) b) (made most s h .ascii)
+    name-from (modesIn s) (lengthsIn s) (nameBytesIn s) (bytes-at s (lengthsStart (countIn s)) (countIn s) b) (made most s h .ascii)

@@ -9,13 +9,13 @@ use Rattle.slices.proofs.Laws.WrittenLaws.{after-set}
 use Rattle.store_table.specs.Names.{sameName, has}
 use Rattle.store_table.proofs.Laws.SameLaws.{same-not}
 use Rattle.store_table.proofs.Laws.NamesLaws.{has-next}
-use Rattle.store_table.specs.Stores.{Entry, countIn, entriesIn, namesOf}
+use Rattle.store_table.specs.Stores.{Entry, countIn, entriesIn, allNames}
 use Rattle.store_table.specs.Inner.Index.{hashOf, EntryAt, Finds, Indexed, Blank, Standing}
 use Rattle.store_table.specs.declared.Found.the-variants.{No, At}
 
 -- ---- what a look finds
 module _ {w : List ℕ} {es : List Entry} {first : ℕ} where
-  pub finds-none : has w (namesOf 0 255 (take first es)) ≡ false → Finds w es first No
+  pub finds-none : has w (allNames (take first es)) ≡ false → Finds w es first No
   finds-none h =
       record {
         missing = λ e. h;
@@ -31,7 +31,7 @@ module _ {w : List ℕ} {es : List Entry} {first : ℕ} where
 
 -- ---- an index
 pub indexed-start : (s starts slots : List ℕ) → Blank slots → Indexed s 0 starts slots
-unfolding has namesOf
+unfolding has allNames
 indexed-start s starts slots b =
     record {
       begins = λ k lt. absurd (omega arith);
@@ -41,11 +41,11 @@ indexed-start s starts slots b =
 
 module _ {s starts slots : List ℕ} {k : ℕ} (h : Indexed s k starts slots) where
   -- a name whose slot is empty is none of those indexed
-  pub slot-empty : (w : List ℕ) → getD slots (hashOf w) 0 ≡ 0 → has w (namesOf 0 255 (take k (entriesIn s))) ≡ false
+  pub slot-empty : (w : List ℕ) → getD slots (hashOf w) 0 ≡ 0 → has w (allNames (take k (entriesIn s))) ≡ false
   slot-empty w z = not-eq-not .0 (λ p. h .filled w p z)
 
   -- one entry more, x, whose name begins at `at`
-  module _ {count at hash : ℕ} {x : Entry} (st : Standing s count k at) (e : EntryAt (entriesIn s) k x) (low : x .mode ≤ 255) (q : hash ≡ hashOf (x .name)) (room : k < length starts) (slot : hash < length slots) where
+  module _ {count at hash : ℕ} {x : Entry} (st : Standing s count k at) (e : EntryAt (entriesIn s) k x) (q : hash ≡ hashOf (x .name)) (room : k < length starts) (slot : hash < length slots) where
     pub indexed-next : Indexed s (k + 1) (set starts k at) (set slots hash (k + 1))
     indexed-next =
         record {
@@ -54,7 +54,7 @@ module _ {s starts slots : List ℕ} {k : ℕ} (h : Indexed s k starts slots) wh
           filled = λ w p. after-set (λ v. v ≡ 0 → ⊥) slots hash (k + 1) (hashOf w) slot (λ z o. omega arith) (λ n. h .filled w (among w n p));
         }
       where
-        among : (w : List ℕ) → (hashOf w ≡ hash → ⊥) → has w (namesOf 0 255 (take (k + 1) (entriesIn s))) ≡ true → has w (namesOf 0 255 (take k (entriesIn s))) ≡ true
+        among : (w : List ℕ) → (hashOf w ≡ hash → ⊥) → has w (allNames (take (k + 1) (entriesIn s))) ≡ true → has w (allNames (take k (entriesIn s))) ≡ true
         among w n p =
             let d : sameName w (x .name) ≡ false = same-not hashOf (λ z. n (z ∙ sym q)) in
-            rw (has-next (entriesIn s) k e low w, d) at p
+            rw (has-next (entriesIn s) k e w, d) at p

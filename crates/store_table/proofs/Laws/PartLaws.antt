@@ -27,8 +27,11 @@ module _ (s : List ℕ) (at n k : ℕ) (fits : at + n ≤ length s) where
   most-end most le = rw (part-end le)
 
   module _ (lt : k < n) where
+    pub part-get : getD (take n (drop at s)) k 0 ≡ getD s (at + k) 0
+    part-get = getD-take n (drop at s) k 0 lt ∙ getD-drop at s k 0
+
     pub part-at : drop k (take n (drop at s)) ≡ getD s (at + k) 0 ∷ drop (k + 1) (take n (drop at s))
-    part-at = drop-cons (take n (drop at s)) k 0 (omega (arith, part-length)) ∙ rw (getD-take n (drop at s) k 0 lt, getD-drop at s k 0, add-one)
+    part-at = drop-cons (take n (drop at s)) k 0 (omega (arith, part-length)) ∙ rw (part-get, add-one)
 
     pub sum-on : sum (drop k (take n (drop at s))) ≡ getD s (at + k) 0 + sum (drop (k + 1) (take n (drop at s)))
     unfolding sum

@@ -7,11 +7,11 @@ use native.Mathlib.Omega.{arith}
 use borrow.Author.Tests.{le-leb}
 use lib.ListN.{length, take, drop, length-append, length-map}
 use lib.Seq.{take-append-seam, drop-append-seam, take-at, drop-at, drop-drop}
-use Rattle.little_endian.specs.Bytes.{leBytes, leAt}
+use Rattle.little_endian.specs.Bytes.{leBytes, leAt, AllBytes}
 use Rattle.little_endian.proofs.Laws.BytesLaws.{leNumber-leBytes, bytes-append, bytes-number}
 use Rattle.slices.specs.Text.{allAscii, AllBytes}
 use Rattle.slices.proofs.Laws.AsciiLaws.{bytes-ascii, append-ascii}
-use Rattle.store_table.specs.Stores.{Entry, entriesFrom, entriesIn, sum, allAtMost, wellMade, Laid}
+use Rattle.store_table.specs.Stores.{Entry, entriesFrom, entriesIn, sum, allAtMost, wellMade, Laid, countStart, totalStart, modesStart, lengthsStart, namesStart}
 use Rattle.store_table.proofs.Laws.StoresLaws.{made-names, well-made-laid}
 use Rattle.store_table.specs.TableBytes.{modes, lengths, joined, tableOf}
 
@@ -29,7 +29,7 @@ unfolding lengths joined sum
 length-joined [] = refl
 length-joined (e ∷ es) = rw (length-append, length-joined es)
 
-pub table-length : (es : List Entry) → length (tableOf es) ≡ 4 + 2 * length es + sum (lengths es)
+pub table-length : (es : List Entry) → length (tableOf es) ≡ namesStart (length es) + sum (lengths es)
 unfolding tableOf
 table-length es = simp (length-append, length-modes, length-lengths, length-joined) (omega arith)
 
@@ -86,29 +86,29 @@ module _ (most : ℕ) (es : List Entry) (low : most ≤ 255) (few : length es �
       let z = bytes-append (leBytes 2 (sum (lengths es))) arrays (bytes-number 2 (sum (lengths es))) y in
       bytes-append (leBytes 2 (length es)) (leBytes 2 (sum (lengths es)) ++ arrays) (bytes-number 2 (length es)) z
 
-  count-read : leAt (tableOf es) 0 2 ≡ length es
+  count-read : leAt (tableOf es) countStart 2 ≡ length es
   unfolding tableOf leBytes leAt
   count-read = leNumber-leBytes 2 (length es) (omega arith)
 
-  total-read : leAt (tableOf es) 2 2 ≡ sum (lengths es)
+  total-read : leAt (tableOf es) totalStart 2 ≡ sum (lengths es)
   unfolding tableOf leBytes leAt
   total-read = leNumber-leBytes 2 (sum (lengths es)) (omega (arith, sum-few es fit))
 
-  modes-read : take (length es) (drop 4 (tableOf es)) ≡ modes es
+  modes-read : take (length es) (drop modesStart (tableOf es)) ≡ modes es
   unfolding tableOf leBytes
   modes-read = take-at (modes es) _ (length es) (length-modes es)
 
-  after-modes : drop (4 + length es) (tableOf es) ≡ lengths es ++ joined es
+  after-modes : drop (lengthsStart (length es)) (tableOf es) ≡ lengths es ++ joined es
   unfolding tableOf leBytes
-  after-modes = sym (drop-drop (length es) 4 (tableOf es)) ∙ drop-at (modes es) _ (length es) (length-modes es)
+  after-modes = sym (drop-drop (length es) modesStart (tableOf es)) ∙ drop-at (modes es) _ (length es) (length-modes es)
 
-  lengths-read : take (length es) (drop (4 + length es) (tableOf es)) ≡ lengths es
+  lengths-read : take (length es) (drop (lengthsStart (length es)) (tableOf es)) ≡ lengths es
   lengths-read = rw after-modes (take-at (lengths es) _ (length es) (length-lengths es))
 
-  names-read : drop (4 + 2 * length es) (tableOf es) ≡ joined es
+  names-read : drop (namesStart (length es)) (tableOf es) ≡ joined es
   names-read =
-      let e : 4 + 2 * length es ≡ 4 + length es + length es = omega arith in
-      rw (e, ← drop-drop (length es) (4 + length es) (tableOf es), after-modes) (drop-at (lengths es) (joined es) (length es) (length-lengths es))
+      let e : namesStart (length es) ≡ lengthsStart (length es) + length es = omega arith in
+      rw (e, ← drop-drop (length es) (lengthsStart (length es)) (tableOf es), after-modes) (drop-at (lengths es) (joined es) (length es) (length-lengths es))
 
   well-made : wellMade most (tableOf es) ≡ true
   well-made =

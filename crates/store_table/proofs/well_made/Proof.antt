@@ -19,17 +19,14 @@ le2-requires-2 c κs = search needs
 returns-2 : tie.Need-returns-2
 returns-2 c = unmade-many _ _ _ _ (c .before .before .le2 .ensures .0) (c .before .le22 .ensures .0) (omega arith)
 
-mul-if3 : tie.Need-mul-if3
-mul-if3 c = search needs
+names-start-requires : tie.Need-names-start-requires
+names-start-requires c κs = search needs
 
 add-if3 : tie.Need-add-if3
 add-if3 c = search needs
 
-add-if3-2 : tie.Need-add-if3-2
-add-if3-2 c = search needs
-
 returns-3 : tie.Need-returns-3
-returns-3 c = let v = c .before .before in unmade-length _ _ _ _ (v .before .le2 .ensures .0) (v .le22 .ensures .0) (c .if3 .taken)
+returns-3 c = let v = c .before .before .before in unmade-length _ _ _ _ (v .before .le2 .ensures .0) (v .le22 .ensures .0) (λ e. c .if3 .taken (omega (arith, c .before .names-start .ensures)))
 
 add-sum-from : tie.Need-add-sum-from
 add-sum-from c = search needs
@@ -39,7 +36,7 @@ sum-from-requires c κs = search needs
 
 returns-4 : tie.Need-returns-4
 returns-4 c =
-    let v = c .before .before .before .before in
+    let v = c .before .before .before .before .before in
     unmade-sum _ _ _ _ (v .before .le2 .ensures .0) (v .le22 .ensures .0) (λ e. c .if4 .taken (c .before .sum-from .ensures ∙ e))
 
 all-at-most-requires : tie.Need-all-at-most-requires
@@ -47,25 +44,23 @@ all-at-most-requires c κs = search needs
 
 returns-5 : tie.Need-returns-5
 returns-5 c =
-    let v = c .before .before .before .before .before .before in
+    let v = c .before .before .before .before .before .before .before in
     unmade-modes _ _ _ _ (v .before .le2 .ensures .0) (v .le22 .ensures .0) (sym (c .before .all-at-most .ensures) ∙ not-true _ (c .if5 .taken))
 
-mul-ascii-from : tie.Need-mul-ascii-from
-mul-ascii-from c = search needs
-
-add-ascii-from : tie.Need-add-ascii-from
-add-ascii-from c = search needs
+names-start-requires-2 : tie.Need-names-start-requires-2
+names-start-requires-2 c κs = search needs
 
 ascii-from-requires : tie.Need-ascii-from-requires
 ascii-from-requires c κs = search needs
 
 returns-6 : tie.Need-returns-6
 returns-6 c =
-    let a = c .before .before .before .before .before in
-    let v = a .before .before in
-    let fill = sym (c .before .before .before .before .sum-from .ensures) ∙ c .before .before .before .if4 .left in
-    let allow = sym (c .before .before .all-at-most .ensures) ∙ not-false _ (c .before .if5 .left) in
-    c .ascii-from .ensures ∙ made-names _ _ _ _ (v .before .le2 .ensures .0) (v .le22 .ensures .0) (omega arith) (omega arith) (a .if3 .left) fill allow
+    let t = c .before .before in
+    let a = t .before .before .before .before in
+    let v = a .before .before .before in
+    let fill = sym (t .before .before .before .sum-from .ensures) ∙ t .before .before .if4 .left in
+    let allow = sym (t .before .all-at-most .ensures) ∙ not-false _ (t .if5 .left) in
+    c .ascii-from .ensures ∙ rw (c .before .names-start2 .ensures) (made-names _ _ _ _ (v .before .le2 .ensures .0) (v .le22 .ensures .0) (omega arith) (omega arith) (omega (arith, a .before .names-start .ensures, a .if3 .left)) fill allow)
 
 pub well-made-spec : {M : Type 1} → statement M
 well-made-spec =
@@ -75,16 +70,14 @@ well-made-spec =
     le2-requires
     le2-requires-2
     returns-2
-    mul-if3
+    names-start-requires
     add-if3
-    add-if3-2
     returns-3
     add-sum-from
     sum-from-requires
     returns-4
     all-at-most-requires
     returns-5
-    mul-ascii-from
-    add-ascii-from
+    names-start-requires-2
     ascii-from-requires
     returns-6)

@@ -8,7 +8,7 @@ use lib.Dec.{leb}
 use lib.ListN.{length, getD, take, drop}
 use Rattle.little_endian.specs.Bytes.{leAt}
 use Rattle.store_table.specs.Names.{sameName, has}
-use Rattle.store_table.specs.Stores.{Entry, entriesFrom, countIn, modesIn, lengthsIn, entriesIn, sum, namesOf, Laid}
+use Rattle.store_table.specs.Stores.{Entry, entriesFrom, countIn, modesIn, lengthsIn, entriesIn, sum, allNames, Laid}
 use Rattle.store_table.specs.declared.Found.{Found}
 use Rattle.store_table.specs.declared.Found.the-variants.{No, At}
 
@@ -34,13 +34,17 @@ pub record Standing (s : List ℕ) (count k at : ℕ) : Type 0 where
   pub fills : at + sum (drop k (lengthsIn s)) ≤ length s
   pub rest : drop k (entriesIn s) ≡ entriesFrom (drop k (modesIn s)) (drop k (lengthsIn s)) (drop at s)
 
+-- the length of the name of entry k
+abbrev pub lengthAt : List ℕ → ℕ → ℕ
+lengthAt s k = getD (lengthsIn s) k 0
+
 -- entry k
 abbrev pub EntryAt : List Entry → ℕ → Entry → Type 0
 EntryAt es k x = drop k es ≡ x ∷ drop (k + 1) es
 
 -- what a look for a name among the first entries finds
 pub record Finds (w : List ℕ) (es : List Entry) (first : ℕ) (r : Found) : Type 0 where
-  pub missing : r ≡ No → has w (namesOf 0 255 (take first es)) ≡ false
+  pub missing : r ≡ No → has w (allNames (take first es)) ≡ false
   pub there : (k : ℕ) → r ≡ At k → (k < first) × ((x : Entry) × (EntryAt es k x × (sameName w (x .name) ≡ true)))
 
 -- the first entries are indexed: where their names begin; each slot holds nothing (0) or one of them, plus 1; and the slot of
@@ -48,7 +52,7 @@ pub record Finds (w : List ℕ) (es : List Entry) (first : ℕ) (r : Found) : Ty
 pub record Indexed (s : List ℕ) (first : ℕ) (starts slots : List ℕ) : Type 0 where
   pub begins : (k : ℕ) → k < first → Standing s (countIn s) k (getD starts k 0)
   pub kept : (h : ℕ) → getD slots h 0 ≤ first
-  pub filled : (w : List ℕ) → has w (namesOf 0 255 (take first (entriesIn s))) ≡ true → getD slots (hashOf w) 0 ≡ 0 → ⊥
+  pub filled : (w : List ℕ) → has w (allNames (take first (entriesIn s))) ≡ true → getD slots (hashOf w) 0 ≡ 0 → ⊥
 
 -- nothing is written yet
 abbrev pub Blank : List ℕ → Type 0

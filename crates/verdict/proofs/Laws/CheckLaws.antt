@@ -20,13 +20,13 @@ use Rattle.grammar.proofs.Laws.FitsLaws.{read-decodes}
 use Rattle.read.specs.Outcome.{Outcome, outcome, readingOf}
 use Rattle.read.specs.declared.Reading.{Reading}
 use Rattle.read.specs.declared.Reading.the-variants.{Read as Written}
-use Rattle.store_table.specs.Stores.{Entry, isTable, countIn, entriesIn, twinOf}
+use Rattle.store_table.specs.Stores.{Entry, isTable, countIn, entriesIn, writeOnlyNames, twinOf}
 use Rattle.store_table.proofs.Laws.StoresLaws.{well-made-laid}
 use Rattle.store_table.proofs.Laws.WalkLaws.{length-entries}
 use Rattle.store_table.specs.declared.Twin.the-variants.{No as Lone, At as Twinned}
 use Rattle.evaluate.specs.Evict.{worldOf, evict}
 use Rattle.image.proofs.Laws.InsideLaws.{decode-whole}
-use Rattle.verdict.specs.Check.{oldest, writeOnly, bare, archived, verdict, unknownIn, checkStores, checkRule, checkOf}
+use Rattle.verdict.specs.Check.{oldest, bare, archived, verdict, unknownIn, checkStores, checkRule, checkOf}
 use Rattle.verdict.specs.declared.Unknown.{Unknown}
 use Rattle.verdict.specs.declared.Unknown.the-variants.{No, At}
 use Rattle.verdict.specs.declared.Verdict.{Verdict}
@@ -34,8 +34,8 @@ use Rattle.verdict.specs.declared.Verdict.the-variants.{Pass, Refused}
 use Rattle.verdict.specs.Inner.Grades.{WithStores}
 
 -- where 21 is not due, 22 is tested without a look at whether there are write-only stores
-pub archived-by : (r : Rule) (es : List Entry) → bare r es ≡ false → archived r es ≡ evict r (worldOf es oldest (writeOnly es))
-archived-by r es e = go (writeOnly es)
+pub archived-by : (r : Rule) (es : List Entry) → bare r es ≡ false → archived r es ≡ evict r (worldOf es oldest (writeOnlyNames es))
+archived-by r es e = go (writeOnlyNames es)
   where
     go : (ns : List (List ℕ)) → (leb 1 (length ns) && evict r (worldOf es oldest ns)) ≡ evict r (worldOf es oldest ns)
     go [] = sym e
@@ -58,7 +58,7 @@ module _ (r : Rule) (s : List ℕ) where
   by-stores table lone = rw (table, lone)
 
   pub passed-none : isTable s ≡ true → twinOf (entriesIn s) ≡ Lone → countIn s ≡ 0 → Pass ≡ checkRule r s
-  passed-none table lone e = go (entriesIn s) (length-entries s (well-made-laid 2 s table)) ∙ by-stores table lone
+  passed-none table lone e = go (entriesIn s) (length-entries s (well-made-laid _ s table)) ∙ by-stores table lone
     where
       go : (es : List Entry) → length es ≡ countIn s → Pass ≡ checkStores r es
       go [] q = refl
@@ -67,7 +67,7 @@ module _ (r : Rule) (s : List ℕ) where
   -- 20: there are stores, and u is what a look for unknown names found
   module _ (h : WithStores s) {u : Unknown} (found : u ≡ unknownIn (entriesIn s) r 0) where
     pub by-tests : verdict u (bare r (entriesIn s)) (archived r (entriesIn s)) ≡ checkRule r s
-    by-tests = rw found (go (entriesIn s) (length-entries s (well-made-laid 2 s (h .table)))) ∙ by-stores (h .table) (h .lone)
+    by-tests = rw found (go (entriesIn s) (length-entries s (well-made-laid _ s (h .table)))) ∙ by-stores (h .table) (h .lone)
       where
         go : (es : List Entry) → length es ≡ countIn s → verdict (unknownIn es r 0) (bare r es) (archived r es) ≡ checkStores r es
         go [] q = absurd (h .stored (sym q))
@@ -82,7 +82,7 @@ module _ (r : Rule) (s : List ℕ) where
       refused-21 e = rw (known, ← says, e) at by-tests
 
       -- 22 or a pass: b is keep, and a is what the rule says with the write-only stores confirmed
-      module _ (keeps : b ≡ false) {a : Bool} (also : a ≡ evict r (worldOf (entriesIn s) oldest (writeOnly (entriesIn s)))) where
+      module _ (keeps : b ≡ false) {a : Bool} (also : a ≡ evict r (worldOf (entriesIn s) oldest (writeOnlyNames (entriesIn s)))) where
         by-archived : verdict No false a ≡ checkRule r s
         by-archived = rw (known, archived-by r (entriesIn s) (sym says ∙ keeps), ← says, keeps, ← also) at by-tests
 

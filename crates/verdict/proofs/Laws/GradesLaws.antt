@@ -12,18 +12,18 @@ use Rattle.slices.proofs.Laws.WrittenLaws.{after-set}
 use Rattle.rules.specs.Rule.{Leaf}
 use Rattle.image.specs.Decode.{aLeaf, meaning, cellAt}
 use Rattle.store_table.specs.Names.{has}
-use Rattle.store_table.specs.Stores.{Entry, isReadable, readyCount, twinOf}
+use Rattle.store_table.specs.Stores.{Entry, readOnly, writeOnly, isReadable, writeOnlyNames, readyCount, twinOf}
 use Rattle.store_table.proofs.Laws.MemberLaws.{has-mem, mem-has}
-use Rattle.store_table.proofs.Laws.EntryLaws.{name-entry, entry-named, one-of-name, ready-or-none}
+use Rattle.store_table.proofs.Laws.EntryLaws.{write-only-entry, entry-write-only, one-of-name, ready-or-none}
 use Rattle.store_table.specs.declared.Twin.the-variants.{No as Lone}
 use Rattle.evaluate.specs.Evict.{World, worldOf, leafSays}
 use Rattle.evaluate.proofs.Laws.MeaningLaws.{says-named, says-older, says-readable}
 use Rattle.evaluate.proofs.Laws.MonotoneLaws.{both-ways}
-use Rattle.verdict.specs.Check.{oldest, writeOnly}
+use Rattle.verdict.specs.Check.{oldest}
 use Rattle.verdict.specs.Inner.Grades.{nameGrade, Graded, GradedUpTo}
 
 -- a leaf that says the same of both
-same-graded : {l : Leaf} {es : List Entry} (b : Bool) → b ≡ leafSays l (worldOf es oldest []) → b ≡ leafSays l (worldOf es oldest (writeOnly es)) → Graded l es (cond b 2 0)
+same-graded : {l : Leaf} {es : List Entry} (b : Bool) → b ≡ leafSays l (worldOf es oldest []) → b ≡ leafSays l (worldOf es oldest (writeOnlyNames es)) → Graded l es (cond b 2 0)
 same-graded true p q = record { bare = p; archived = q }
 same-graded false p q = record { bare = p; archived = q }
 
@@ -34,25 +34,24 @@ none-has w = refl
 
 -- ---- of stores of which no two have one name
 module _ (es : List Entry) (lone : twinOf es ≡ Lone) where
-  -- a store's name is a write-only store's just where its mode is 2
-  write-only-has : (x : Entry) → List·Memᴰ x es → has (x .name) (writeOnly es) ≡ eqb (x .mode) 2
+  -- a store's name is a write-only store's just where its mode is so
+  write-only-has : (x : Entry) → List·Memᴰ x es → has (x .name) (writeOnlyNames es) ≡ eqb (x .mode) writeOnly
   write-only-has x m = both-ways to from
     where
-      to : has (x .name) (writeOnly es) ≡ true → eqb (x .mode) 2 ≡ true
+      to : has (x .name) (writeOnlyNames es) ≡ true → eqb (x .mode) writeOnly ≡ true
       to h =
-          let (y, k, low, high, p) = name-entry 2 2 (x .name) es (has-mem (x .name) (writeOnly es) h) in
+          let (y, k, only, p) = write-only-entry (x .name) es (has-mem (x .name) (writeOnlyNames es) h) in
           let same : x .mode ≡ y .mode = ap (λ (z : Entry). z .mode) (one-of-name es lone x y m k (sym p)) in
-          eq-eqb (x .mode) 2 (omega arith)
+          eq-eqb (x .mode) writeOnly (omega arith)
 
-      from : eqb (x .mode) 2 ≡ true → has (x .name) (writeOnly es) ≡ true
+      from : eqb (x .mode) writeOnly ≡ true → has (x .name) (writeOnlyNames es) ≡ true
       from e =
-          let two : x .mode ≡ 2 = eqb-true (x .mode) 2 e in
-          mem-has (entry-named 2 2 x es m (omega arith) (omega arith))
+          mem-has (entry-write-only x es m (eqb-true (x .mode) writeOnly e))
 
   -- so a readable store's is not
-  pub write-only-unready : (x : Entry) → List·Memᴰ x es → isReadable (x .mode) ≡ true → has (x .name) (writeOnly es) ≡ true → ⊥
+  pub write-only-unready : (x : Entry) → List·Memᴰ x es → isReadable (x .mode) ≡ true → has (x .name) (writeOnlyNames es) ≡ true → ⊥
   unfolding isReadable
-  write-only-unready x m r h = omega (arith, leb-true (x .mode) 1 r, eqb-true (x .mode) 2 (sym (write-only-has x m) ∙ h))
+  write-only-unready x m r h = omega (arith, leb-true (x .mode) readOnly r, eqb-true (x .mode) writeOnly (sym (write-only-has x m) ∙ h))
 
   -- no readable store is confirmed
   none-ready : (ns : List (List ℕ)) → ((x : Entry) → List·Memᴰ x es → isReadable (x .mode) ≡ true → has (x .name) ns ≡ true → ⊥) → readyCount es ns ≡ 0
@@ -61,28 +60,28 @@ module _ (es : List Entry) (lone : twinOf es ≡ Lone) where
   ready-bare : readyCount es [] ≡ 0
   ready-bare = none-ready [] (λ x m r h. true≢false (sym h ∙ none-has (x .name)))
 
-  ready-archived : readyCount es (writeOnly es) ≡ 0
-  ready-archived = none-ready (writeOnly es) write-only-unready
+  ready-archived : readyCount es (writeOnlyNames es) ≡ 0
+  ready-archived = none-ready (writeOnlyNames es) write-only-unready
 
   -- ---- the grade of a leaf, by its kind
   module _ (s : List ℕ) (n : ℕ) {k : ℕ} (a : ℕ) (l : Leaf) (e : meaning s n k a ≡ aLeaf l) where
     pub older-graded : {b : Bool} → k ≡ 1 → leb a oldest ≡ b → Graded l es (cond b 2 0)
-    older-graded {b} h p = same-graded b (sym p ∙ says-older s n a (worldOf es oldest []) l e h) (sym p ∙ says-older s n a (worldOf es oldest (writeOnly es)) l e h)
+    older-graded {b} h p = same-graded b (sym p ∙ says-older s n a (worldOf es oldest []) l e h) (sym p ∙ says-older s n a (worldOf es oldest (writeOnlyNames es)) l e h)
 
     pub readable-graded : {b : Bool} → k ≡ 2 → leb a 0 ≡ b → Graded l es (cond b 2 0)
-    readable-graded {b} h p = same-graded b (says (worldOf es oldest []) ready-bare) (says (worldOf es oldest (writeOnly es)) ready-archived)
+    readable-graded {b} h p = same-graded b (says (worldOf es oldest []) ready-bare) (says (worldOf es oldest (writeOnlyNames es)) ready-archived)
       where
         says : (v : World) → v .ready ≡ 0 → b ≡ leafSays l v
         says v q = sym p ∙ ap (leb a) (sym q) ∙ says-readable s n a v l e h
 
     -- a name, which is this store's
     pub name-graded : {w : List ℕ} (x : Entry) → k ≡ 0 → w ≡ take (a % 65536) (drop (4 + 12 * n + a / 65536) s) → List·Memᴰ x es → w ≡ x .name → Graded l es (nameGrade (x .mode))
-    name-graded {w} x h named-as m p = by (eqb (x .mode) 2) (says-named s n a (worldOf es oldest (writeOnly es)) l e h named-as (rw p (sym (write-only-has x m))))
+    name-graded {w} x h named-as m p = by (eqb (x .mode) writeOnly) (says-named s n a (worldOf es oldest (writeOnlyNames es)) l e h named-as (rw p (sym (write-only-has x m))))
       where
         keeps : false ≡ leafSays l (worldOf es oldest [])
         keeps = says-named s n a (worldOf es oldest []) l e h named-as (sym (none-has w))
 
-        by : (b : Bool) → b ≡ leafSays l (worldOf es oldest (writeOnly es)) → Graded l es (cond b 1 0)
+        by : (b : Bool) → b ≡ leafSays l (worldOf es oldest (writeOnlyNames es)) → Graded l es (cond b 1 0)
         by true q = record { bare = keeps; archived = q }
         by false q = record { bare = keeps; archived = q }
 

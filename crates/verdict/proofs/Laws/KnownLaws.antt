@@ -8,14 +8,14 @@ use native.Mathlib.Omega.{arith}
 use borrow.Author.Tests.{not-false}
 use Rattle.rules.specs.Rule.{Leaf, named, olderThan, readable, Rule, leaf, node, Rules, nil, more, sizes, leafNames, namesIn, namesInAll}
 use Rattle.store_table.specs.Names.{has}
-use Rattle.store_table.specs.Stores.{Entry, namesOf}
+use Rattle.store_table.specs.Stores.{Entry, allNames}
 use Rattle.verdict.specs.Check.{isUnknown, first, unknownIn, unknownAll}
 use Rattle.verdict.specs.declared.Unknown.{Unknown}
 use Rattle.verdict.specs.declared.Unknown.the-variants.{No, At}
 
 -- each of some names is a store's
 abbrev pub Stored : List Entry → List (List ℕ) → Type 0
-Stored es ws = (w : List ℕ) → List·Memᴰ w ws → has w (namesOf 0 2 es) ≡ true
+Stored es ws = (w : List ℕ) → List·Memᴰ w ws → has w (allNames es) ≡ true
 
 first-no : (x y : Unknown) → first x y ≡ No → (x ≡ No) × (y ≡ No)
 first-no No y e = (refl, e)
@@ -35,7 +35,7 @@ module _ (es : List Entry) where
 
   leaf-stored : (l : Leaf) → isUnknown es l ≡ false → Stored es (leafNames l)
   unfolding isUnknown
-  leaf-stored (named v) e w (List·Memᴰ·head p) = rw p (not-false (has v (namesOf 0 2 es)) e)
+  leaf-stored (named v) e w (List·Memᴰ·head p) = rw p (not-false (has v (allNames es)) e)
   leaf-stored (named v) e w (List·Memᴰ·tail m) = absurd (List·Memᴰ·not-nil m)
   leaf-stored (olderThan d) e w m = absurd (List·Memᴰ·not-nil m)
   leaf-stored (readable k) e w m = absurd (List·Memᴰ·not-nil m)

@@ -10,7 +10,7 @@ use borrow.Author.Tests.{leb-false}
 use Rattle.refusals.specs.Refusals.{refusal, unknownStore, unconfirmed, archiveOnly}
 use Rattle.rules.specs.Rule.{Rule}
 use Rattle.store_table.specs.Names.{has}
-use Rattle.store_table.specs.Stores.{isReadable, entriesIn, namesOf, twinOf}
+use Rattle.store_table.specs.Stores.{isReadable, entriesIn, twinOf, readOnly, writeOnly, allNames, writeOnlyNames}
 use Rattle.store_table.proofs.Laws.MemberLaws.{has-mem, mem-has}
 use Rattle.store_table.specs.declared.Twin.the-variants.{No as Lone}
 use Rattle.store_table.proofs.Laws.DistinctLaws.{no-twin-distinct}
@@ -18,7 +18,7 @@ use Rattle.store_table.proofs.Laws.EntryLaws.{entry-mode, name-entry, entry-nam
 use Rattle.evaluate.specs.Evict.{worldOf, evict}
 use Rattle.decide.specs.Decide.{listNames}
 use Rattle.evaluate.proofs.Laws.MonotoneLaws.{evict-up}
-use Rattle.verdict.specs.Check.{unknownIn, oldest, writeOnly, bare, archived, verdict, checkRule}
+use Rattle.verdict.specs.Check.{unknownIn, oldest, bare, archived, verdict, checkRule}
 use Rattle.verdict.specs.Guarantee.{Table, Named, Nothing, JustWriteOnly, Known, Evicts, ReadableOn, Safe, Guarantee}
 use Rattle.verdict.proofs.Laws.CheckLaws.{archived-by, by-tests}
 use Rattle.verdict.proofs.Laws.GradesLaws.{write-only-unready}
@@ -61,9 +61,9 @@ false-of true f = absurd (f refl)
 false-of false f = refl
 
 -- ---- the mode that is not readable
-unreadable-two : {mode : ℕ} → mode ≤ 2 → isReadable mode ≡ false → mode ≡ 2
+unreadable-mode : {mode : ℕ} → mode ≤ writeOnly → isReadable mode ≡ false → mode ≡ writeOnly
 unfolding isReadable
-unreadable-two {mode} le e = omega (arith, leb-false mode 1 e)
+unreadable-mode {mode} le e = omega (arith, leb-false mode readOnly e)
 
 -- ---- a table with at least one store and no name twice
 module _ {s : List ℕ} (t : Table s) (r : Rule) where
@@ -77,27 +77,27 @@ module _ {s : List ℕ} (t : Table s) (r : Rule) where
   known-no : Known r s → unknownIn (entriesIn s) r 0 ≡ No
   known-no k = no-unknown (entriesIn s) r 0 (λ w m. stored w (k w m))
     where
-      stored : (w : List ℕ) → Named w s → has w (namesOf 0 2 (entriesIn s)) ≡ true
-      stored w (e, m, p) = rw p at (mem-has (entry-named 0 2 e (entriesIn s) m (omega arith) (entry-mode 2 s (t .made) e m)))
+      stored : (w : List ℕ) → Named w s → has w (allNames (entriesIn s)) ≡ true
+      stored w (e, m, p) = rw p at (mem-has (entry-named e (entriesIn s) m))
 
   no-known : unknownIn (entriesIn s) r 0 ≡ No → Known r s
   no-known e w m =
-      let (x, at, low, high, p) = name-entry 0 2 w (entriesIn s) (has-mem w (namesOf 0 2 (entriesIn s)) (unknown-no (entriesIn s) r 0 e w m)) in
+      let (x, at, p) = name-entry w (entriesIn s) (has-mem w (allNames (entriesIn s)) (unknown-no (entriesIn s) r 0 e w m)) in
       (x, at, p)
 
   -- what says evict with no readable store on the list says so at the largest age with just the write-only stores confirmed
   module _ (known : Known r s) {age : ℕ} (young : age ≤ oldest) (ns : List (List ℕ)) where
-    kept : NoneReady (entriesIn s) ns → (w : List ℕ) → Named w s → has w ns ≡ true → has w (writeOnly (entriesIn s)) ≡ true
+    kept : NoneReady (entriesIn s) ns → (w : List ℕ) → Named w s → has w ns ≡ true → has w (writeOnlyNames (entriesIn s)) ≡ true
     kept none w (e, m, p) h = by (isReadable (e .mode)) refl
       where
-        by : (b : Bool) → isReadable (e .mode) ≡ b → has w (writeOnly (entriesIn s)) ≡ true
+        by : (b : Bool) → isReadable (e .mode) ≡ b → has w (writeOnlyNames (entriesIn s)) ≡ true
         by true q = absurd (true≢false (sym h ∙ (rw p at (none .1 e m q))))
-        by false q = mem-has (write-only-mem s w (e, m, unreadable-two (entry-mode 2 s (t .made) e m) q, p))
+        by false q = mem-has (write-only-mem s w (e, m, unreadable-mode (entry-mode _ s (t .made) e m) q, p))
 
-    reaches : NoneReady (entriesIn s) ns → evict r (worldOf (entriesIn s) age ns) ≡ true → evict r (worldOf (entriesIn s) oldest (writeOnly (entriesIn s))) ≡ true
-    reaches none = evict-up (worldOf (entriesIn s) age ns) (worldOf (entriesIn s) oldest (writeOnly (entriesIn s))) young (omega (arith, none .0)) r (λ w m. kept none w (known w m))
+    reaches : NoneReady (entriesIn s) ns → evict r (worldOf (entriesIn s) age ns) ≡ true → evict r (worldOf (entriesIn s) oldest (writeOnlyNames (entriesIn s))) ≡ true
+    reaches none = evict-up (worldOf (entriesIn s) age ns) (worldOf (entriesIn s) oldest (writeOnlyNames (entriesIn s))) young (omega (arith, none .0)) r (λ w m. kept none w (known w m))
 
-  to-safe : Known r s → evict r (worldOf (entriesIn s) oldest (writeOnly (entriesIn s))) ≡ false → Safe r s
+  to-safe : Known r s → evict r (worldOf (entriesIn s) oldest (writeOnlyNames (entriesIn s))) ≡ false → Safe r s
   to-safe known keep age young l c e = ⊎-elim on off (ready-or-none (entriesIn s) (listNames l))
     where
       on : OneReady (entriesIn s) (listNames l) → ReadableOn s l
@@ -117,10 +117,10 @@ module _ {s : List ℕ} (t : Table s) (r : Rule) where
           absurd (n .none (x .name) on)
       by false e = refl
 
-  safe-archive : Safe r s → evict r (worldOf (entriesIn s) oldest (writeOnly (entriesIn s))) ≡ false
-  safe-archive safe = by (evict r (worldOf (entriesIn s) oldest (writeOnly (entriesIn s)))) refl
+  safe-archive : Safe r s → evict r (worldOf (entriesIn s) oldest (writeOnlyNames (entriesIn s))) ≡ false
+  safe-archive safe = by (evict r (worldOf (entriesIn s) oldest (writeOnlyNames (entriesIn s)))) refl
     where
-      by : (b : Bool) → evict r (worldOf (entriesIn s) oldest (writeOnly (entriesIn s))) ≡ b → b ≡ false
+      by : (b : Bool) → evict r (worldOf (entriesIn s) oldest (writeOnlyNames (entriesIn s))) ≡ b → b ≡ false
       by true e =
           let (l, j) = write-only-is s t in
           let (x, m, q, on) = safe oldest (omega arith) l (j .list) (write-only-same r s oldest l j ∙ e) in
@@ -155,12 +155,12 @@ module _ {s : List ℕ} (t : Table s) (r : Rule) where
     pub rule-22 : (l k : List ℕ) → Nothing l → JustWriteOnly s k → (checkRule r s ≡ Refused (refusal archiveOnly 0)) ↔ ((Evicts r s oldest l → ⊥) × Evicts r s oldest k)
     rule-22 l k n j = rw (check-known, nothing-same r s oldest l n, write-only-same r s oldest k j) (to, from)
       where
-        to : verdict No (bare r (entriesIn s)) (archived r (entriesIn s)) ≡ Refused (refusal archiveOnly 0) → (bare r (entriesIn s) ≡ true → ⊥) × (evict r (worldOf (entriesIn s) oldest (writeOnly (entriesIn s))) ≡ true)
+        to : verdict No (bare r (entriesIn s)) (archived r (entriesIn s)) ≡ Refused (refusal archiveOnly 0) → (bare r (entriesIn s) ≡ true → ⊥) × (evict r (worldOf (entriesIn s) oldest (writeOnlyNames (entriesIn s))) ≡ true)
         to e =
             let (b, a) = verdict-22 (bare r (entriesIn s)) (archived r (entriesIn s)) .0 e in
             (λ d. true≢false (sym d ∙ b), sym (archived-by r (entriesIn s) b) ∙ a)
 
-        from : (bare r (entriesIn s) ≡ true → ⊥) × (evict r (worldOf (entriesIn s) oldest (writeOnly (entriesIn s))) ≡ true) → verdict No (bare r (entriesIn s)) (archived r (entriesIn s)) ≡ Refused (refusal archiveOnly 0)
+        from : (bare r (entriesIn s) ≡ true → ⊥) × (evict r (worldOf (entriesIn s) oldest (writeOnlyNames (entriesIn s))) ≡ true) → verdict No (bare r (entriesIn s)) (archived r (entriesIn s)) ≡ Refused (refusal archiveOnly 0)
         from (keeps, a) =
             let b = false-of (bare r (entriesIn s)) keeps in
             verdict-22 (bare r (entriesIn s)) (archived r (entriesIn s)) .1 (b, archived-by r (entriesIn s) b ∙ a)

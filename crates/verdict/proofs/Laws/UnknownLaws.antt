@@ -11,7 +11,7 @@ use Rattle.rules.specs.Rule.{Join, all, any, Rule, leaf, node, Rules, nil, more
 use Rattle.image.specs.Decode.{Node, nodeAt, Meaning, aLeaf, aJoin, nothing, argument0, meaning, Cell, cellAt}
 use Rattle.image.specs.Inner.Standing.{Stands, StandAll}
 use Rattle.store_table.specs.Names.{has}
-use Rattle.store_table.specs.Stores.{Entry, namesOf}
+use Rattle.store_table.specs.Stores.{Entry, allNames}
 use Rattle.image.proofs.Laws.CellLaws.{cell-what}
 use Rattle.verdict.specs.Check.{isUnknown, first, unknownIn, unknownAll}
 use Rattle.verdict.specs.declared.Unknown.{Unknown}
@@ -105,6 +105,6 @@ module _ (stores : List Entry) (s : List ℕ) (n i : ℕ) {d : Node} (e : d ≡ 
   other-known h = rw (← cell-what s n i e) (meaning-known stores s n (d .kind) (d .arg) i h)
 
   -- it is a name, and b says whether it is a store's
-  pub name-says : {b : Bool} {w : List ℕ} → d .kind ≡ 0 → w ≡ take (d .arg % 65536) (drop (4 + 12 * n + d .arg / 65536) s) → has w (namesOf 0 2 stores) ≡ b → unknownCell stores (cellAt s n i .what) i ≡ cond (not b) (At i) No
+  pub name-says : {b : Bool} {w : List ℕ} → d .kind ≡ 0 → w ≡ take (d .arg % 65536) (drop (4 + 12 * n + d .arg / 65536) s) → has w (allNames stores) ≡ b → unknownCell stores (cellAt s n i .what) i ≡ cond (not b) (At i) No
   unfolding meaning unknownCell isUnknown
   name-says k named-as says = rw (← cell-what s n i e, k, ← named-as, says)
