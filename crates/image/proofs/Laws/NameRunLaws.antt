@@ -4,10 +4,11 @@ use mathlib.Core.Bool.{false}
 use mathlib.Core.Option.{none, some}
 use Prim.Native.Nat.{ℕ, zero, suc, _+_, _/_, _%_, _<_}
 use borrow.Author.Tests.{eq-eqb, ne-eqb}
+use Rattle.image.specs.Kinds.{namedKind}
 use Rattle.image.specs.Decode.{Node, nextName, nameEnd, endsAt}
 use Rattle.image.proofs.Laws.FitLaws.{stays-none}
 
-next-other : (k a t : ℕ) → (k ≡ 0 → ⊥) → nextName k a t ≡ some t
+next-other : (k a t : ℕ) → (k ≡ namedKind → ⊥) → nextName k a t ≡ some t
 next-other zero a t h = absurd (h refl)
 next-other (suc k) a t h = refl
 
@@ -17,13 +18,13 @@ module _ (f : ℕ → Node) (i t : ℕ) {d : Node} (e : d ≡ f i) (h : nameEnd 
   unfolding nameEnd
   name-step = rw (h, ← e)
 
-  pub name-next : d .kind ≡ 0 → d .arg / 65536 ≡ t → nameEnd f (suc i) ≡ some (t + d .arg % 65536)
+  pub name-next : d .kind ≡ namedKind → d .arg / 65536 ≡ t → nameEnd f (suc i) ≡ some (t + d .arg % 65536)
   name-next k p = name-step ∙ rw (k, eq-eqb (d .arg / 65536) t p)
 
-  pub name-other : (d .kind ≡ 0 → ⊥) → nameEnd f (suc i) ≡ some t
+  pub name-other : (d .kind ≡ namedKind → ⊥) → nameEnd f (suc i) ≡ some t
   name-other k = name-step ∙ next-other (d .kind) (d .arg) t k
 
-  pub name-stop : d .kind ≡ 0 → (d .arg / 65536 ≡ t → ⊥) → (n m : ℕ) → i < n → false ≡ endsAt (nameEnd f n) m
+  pub name-stop : d .kind ≡ namedKind → (d .arg / 65536 ≡ t → ⊥) → (n m : ℕ) → i < n → false ≡ endsAt (nameEnd f n) m
   unfolding nameEnd
   name-stop k p n m lt =
       let q : nameEnd f (suc i) ≡ none = name-step ∙ rw (k, ne-eqb (d .arg / 65536) t p) in
