@@ -12,10 +12,10 @@ ghost use Rattle.decide.specs.Decide.{decideOf};
 use confirmed::mark_confirmed;
 use confirmed::ready_count;
 use evaluate::evaluate;
+use image::node_count;
 use image_test::is_image;
 use leaf_answers::View;
 use leaf_answers::say_leaves;
-use little_endian::le2;
 use refusals::Refusal;
 use store_index::twin_of;
 use store_table::Twin;
@@ -133,7 +133,7 @@ pub fn decide(image: &[u8], stores: &[u8], age: u64, list: &[u8]) -> Decision
     }
     let mut marks = [0u8; 64];
     mark_confirmed(stores, list, &starts, &slots, &mut marks);
-    let n = le2(image, 0) as usize;
+    let n = node_count(image);
     let view = View {
         age,
         ready: ready_count(stores, &marks),

@@ -10,9 +10,9 @@ ghost use Rattle.details.specs.Inner.Room.{Room};
 use decimal::digits::append_digits;
 use image::name_of;
 use image::node_at;
+use image::node_count;
 use lines::append_marked;
 use lines::append_shown;
-use little_endian::le2;
 use read::IMAGE_BYTES;
 use read::Reading;
 use refusals::Refusal;
@@ -47,14 +47,14 @@ fn append_node(page: &mut [u8], at: usize, text: &[u8], index: usize) -> usize
         return at;
     };
     let written = &image[..size];
-    let n = le2(written, 0) as usize;
+    let n = node_count(written);
     if n <= index {
         return at;
     }
     let node = node_at(written, n, index);
     let kind = node.kind;
     let arg = node.arg;
-    if kind == 0 {
+    if kind == image::NAMED {
         return append_shown(page, at, name_of(written, n, arg));
     }
     at

@@ -13,14 +13,14 @@ ghost use Rattle.evaluate.specs.Evict.{joinSays, yeses};
 ghost use Rattle.evaluate.specs.Inner.By.{evictBy, saysAt};
 use image::node_at;
 
-// What a combinator says of children of whom `yes` of `total` say evict: kinds 3 to 5, each by its own line.
-fn join_says(kind: u64, arg: u64, yes: u64, total: u64) -> bool
+// What a combinator says of children of whom `yes` of `total` say evict: each kind by its own line.
+fn join_says(kind: u32, arg: u64, yes: u64, total: u64) -> bool
     ensures { λ r. ⌜ ((s : List ℕ) (n : ℕ) (j : Join) (bs : List Bool) → meaning s n kind arg ≡ aJoin j → yeses bs ≡ yes → length bs ≡ total → r ≡ joinSays j bs) ⌝ }
 {
     match kind {
-        3 => arg <= yes,
-        4 => yes == total,
-        5 => 1 <= yes,
+        image::AT_LEAST => arg <= yes,
+        image::ALL => yes == total,
+        image::ANY => 1 <= yes,
         _ => false,
     }
 }
@@ -36,8 +36,8 @@ pub fn evaluate(image: &[u8], n: usize, from: usize, size: usize, says: &[u8], l
     let kind = root.kind;
     let arg = root.arg;
     match kind {
-        0..=2 => least <= says[at],
-        3..=5 => {
+        image::NAMED..=image::READABLE => least <= says[at],
+        image::AT_LEAST..=image::ANY => {
             let mut end = at;
             let mut yes: u64 = 0;
             let mut total: u64 = 0;

@@ -5,6 +5,7 @@ ghost use Prim.Native.Nat.{ℕ, _≤_};
 ghost use lib.ListN.{length};
 ghost use Rattle.rules.specs.Rule.{Leaf, Rule};
 ghost use Rattle.rules.specs.Rule.{size as sizeOf};
+ghost use Rattle.image.specs.Kinds.{namedKind};
 ghost use Rattle.image.specs.Decode.{aLeaf, meaning, cellAt};
 ghost use Rattle.image.specs.Inner.Standing.{Stands};
 ghost use Rattle.image.specs.Inner.Subtree.{Inside};
@@ -22,18 +23,18 @@ use store_table::mode_at;
 use verdict::OLDEST;
 use verdict::Unknown;
 
-// The grade of a leaf that is no name: 2 where it says evict with nothing confirmed, else 0. Kinds 1 and 2, each by its own line.
-fn test_grade(kind: u64, arg: u64) -> u8
-    ensures { λ r. ⌜ ((s : List ℕ) (n : ℕ) (es : List Entry) (l : Leaf) → meaning s n kind arg ≡ aLeaf l → (kind ≡ 0 → ⊥) → twinOf es ≡ Twin.No → Graded l es r) ⌝ }
+// The grade of a leaf that is no name: 2 where it says evict with nothing confirmed, else 0. Each kind by its own line.
+fn test_grade(kind: u32, arg: u64) -> u8
+    ensures { λ r. ⌜ ((s : List ℕ) (n : ℕ) (es : List Entry) (l : Leaf) → meaning s n kind arg ≡ aLeaf l → (kind ≡ namedKind → ⊥) → twinOf es ≡ Twin.No → Graded l es r) ⌝ }
 {
     match kind {
-        1 => {
+        image::OLDER_THAN => {
             if arg <= OLDEST {
                 return 2;
             }
             0
         }
-        2 => {
+        image::READABLE => {
             if arg <= 0 {
                 return 2;
             }
@@ -67,7 +68,7 @@ pub fn grade_leaves(
         let node = node_at(image, n, i);
         let kind = node.kind;
         let arg = node.arg;
-        if kind == 0 {
+        if kind == image::NAMED {
             let Found::At(k) = find(name_of(image, n, arg), stores, starts, slots) else {
                 return Unknown::At(i);
             };

@@ -9,3 +9,4 @@ pub mod StandingLaws
 pub mod TestLaws
 pub mod InsideLaws
 pub mod CellLaws
+pub mod KindLaws

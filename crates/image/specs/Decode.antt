@@ -1,13 +1,14 @@
 -- From bytes to the rule whose image they are, if they are one. Assumes nothing.
-use Prim.Native.Nat.{ℕ, zero, suc, _+_, _-_, _*_, _/_, _%_}
+use Prim.Native.Nat.{ℕ, zero, suc, _+_, _-_, _/_, _%_}
 use mathlib.Core.Bool.{Bool, true, false, _&&_}
 use mathlib.Core.List.{List}
 use mathlib.Core.Option.{Option, none, some}
 use lib.Dec.{leb, eqb}
-use lib.ListN.{length, take, drop}
+use lib.ListN.{length, drop}
 use Rattle.rules.specs.Rule.{Leaf, named, olderThan, readable, Join, atLeast, all, any, Rule, leaf, node, Rules, nil, more, size}
 use Rattle.little_endian.specs.Bytes.{leAt}
 use Rattle.slices.specs.Text.{allAscii}
+use Rattle.image.specs.Layout.{nodeCountIn, nameByteCountIn, tagStart, argStart, namesStart, nameOf}
 
 abbrev pub when {ℓ} : {A : Type ℓ} → Bool → Option A → Option A
 when true o = o
@@ -31,9 +32,9 @@ pub record Node : Type 0 where
 unfoldable pub nodeAt : List ℕ → ℕ → ℕ → Node
 unfolding leAt
 nodeAt s n i = record {
-  kind = leAt s (4 + 4 * i) 4 % 256;
-  size = leAt s (4 + 4 * i) 4 / 256;
-  arg = leAt s (4 + 4 * n + 8 * i) 8;
+  kind = leAt s (tagStart i) 4 % 256;
+  size = leAt s (tagStart i) 4 / 256;
+  arg = leAt s (argStart n i) 8;
 }
 
 -- what a node is: a leaf, a combinator, or nothing that a rule has
@@ -48,7 +49,7 @@ argument0 (suc k) j = nothing
 
 -- by its kind and its argument, in an image of n nodes
 unfoldable pub meaning : List ℕ → ℕ → ℕ → ℕ → Meaning
-meaning s n zero a = aLeaf (named (take (a % 65536) (drop (4 + 12 * n + a / 65536) s)))
+meaning s n zero a = aLeaf (named (nameOf s n a))
 meaning s n (suc zero) a = aLeaf (olderThan a)
 meaning s n (suc (suc zero)) a = aLeaf (readable a)
 meaning s n (suc (suc (suc zero))) a = aJoin (atLeast a)
@@ -114,17 +115,17 @@ endsAt (some t) m = eqb t m
 
 -- "Length is exactly 4 + 12 × n + m; n is 1 to 2,048, m at most 2,048."
 unfoldable pub sized : List ℕ → ℕ → ℕ → Bool
-sized s n m = leb 1 n && leb n 2048 && leb m 2048 && eqb (length s) (4 + 12 * n + m)
+sized s n m = leb 1 n && leb n 2048 && leb m 2048 && eqb (length s) (namesStart n + m)
 
 -- n nodes and m name bytes: "lengths sum to m"; "Name bytes are below 128"
 unfoldable pub decodeParts : List ℕ → ℕ → ℕ → Option Rule
 unfolding sized allAscii nameEnd nodeAt meaning build cellAt
 decodeParts s n m =
     when (sized s n m)
-    (when (allAscii (drop (4 + 12 * n) s))
+    (when (allAscii (drop (namesStart n) s))
     (when (endsAt (nameEnd (nodeAt s n) n) m)
     (bind (build (cellAt s n) n) only)))
 
 unfoldable pub decode : List ℕ → Option Rule
 unfolding leAt decodeParts
-decode s = decodeParts s (leAt s 0 2) (leAt s 2 2)
+decode s = decodeParts s (nodeCountIn s) (nameByteCountIn s)

@@ -8,18 +8,19 @@ use lib.ListN.{length}
 use Rattle.rules.specs.Rule.{Leaf, named, olderThan, readable, Join, atLeast, all, any, Rule, leaf, node, Rules, nil, more, size, sizes}
 use Rattle.little_endian.specs.Bytes.{leBytes, packed}
 use Rattle.slices.specs.Text.{allAscii}
+use Rattle.image.specs.Kinds.{namedKind, olderThanKind, readableKind, atLeastKind, allKind, anyKind}
 
--- "Kinds: 0 named, 1 older_than, 2 readable"
+-- the kind of a leaf
 abbrev pub leafKind : Leaf → ℕ
-leafKind (named w) = 0
-leafKind (olderThan d) = 1
-leafKind (readable k) = 2
+leafKind (named w) = namedKind
+leafKind (olderThan d) = olderThanKind
+leafKind (readable k) = readableKind
 
--- "3 at_least, 4 all, 5 any"
+-- the kind of a combinator
 abbrev pub joinKind : Join → ℕ
-joinKind (atLeast k) = 3
-joinKind all = 4
-joinKind any = 5
+joinKind (atLeast k) = atLeastKind
+joinKind all = allKind
+joinKind any = anyKind
 
 -- "Tag = kind + 256 × size"
 abbrev pub tag : ℕ → ℕ → ℕ

@@ -1,19 +1,23 @@
 // The rule image: the kinds of nodes, an image written into a buffer, and a node and a name read from one.
 ghost use mathlib.Core.Path.{_≡_};
-ghost use Prim.Native.Nat.{_+_, _*_, _≤_, _<_, _/_, _%_};
-ghost use lib.ListN.{length, take, drop};
+ghost use Prim.Native.Nat.{_+_, _*_, _^_, _≤_, _<_};
+ghost use lib.ListN.{length, take};
 ghost use Rattle.slices.specs.Written.{written};
 ghost use Rattle.little_endian.specs.Bytes.{packed};
+ghost use Rattle.image.specs.Kinds.{isLeaf};
+ghost use Rattle.image.specs.Layout.{nodeCountIn, nameByteCountIn, namesStart, nameOf};
 ghost use Rattle.image.specs.Encode.{imageOf};
 ghost use Rattle.image.specs.Decode.{nodeAt};
 ghost use Rattle.image.specs.Inner.Valid.{nodeOf};
+ghost use Rattle.image.specs.Inner.Subtree.{NameInside};
+use little_endian::le2;
 use little_endian::le4;
 use little_endian::le8;
 use little_endian::put2;
 use little_endian::put4;
 use little_endian::put8;
 
-// The kinds of nodes.
+// The kinds of nodes: document 01's numbers.
 pub const NAMED: u32 = 0;
 
 pub const OLDER_THAN: u32 = 1;
@@ -25,6 +29,13 @@ pub const AT_LEAST: u32 = 3;
 pub const ALL: u32 = 4;
 
 pub const ANY: u32 = 5;
+
+// Whether a node of this kind is a leaf.
+pub fn is_leaf(kind: u32) -> bool
+    ensures { λ r. ⌜ r ≡ isLeaf kind ⌝ }
+{
+    kind <= READABLE
+}
 
 // Writes the first n tags, each in four bytes.
 fn put_tags(s: &mut [u8], at: usize, tags: &[u32], n: usize)
@@ -71,8 +82,8 @@ pub fn write_image(
     n: usize,
     m: usize,
 ) -> usize
-    requires { ⌜ (n ≤ length (now tags)) × ((n ≤ length (now args)) × ((m ≤ length (now names)) × (4 + 12 * n + m ≤ length (now image)))) ⌝ }
-    ensures { λ r. ⌜ (r ≡ 4 + 12 * n + m) × (now (image .exit) ≡ written (now (image .entry)) 0 (imageOf n (take n (now (tags .entry))) (take n (now (args .entry))) (take m (now (names .entry))))) ⌝ }
+    requires { ⌜ (n ≤ length (now tags)) × ((n ≤ length (now args)) × ((m ≤ length (now names)) × (namesStart n + m ≤ length (now image)))) ⌝ }
+    ensures { λ r. ⌜ (r ≡ namesStart n + m) × (now (image .exit) ≡ written (now (image .entry)) 0 (imageOf n (take n (now (tags .entry))) (take n (now (args .entry))) (take m (now (names .entry))))) ⌝ }
 {
     put2(image, 0, n as u64);
     put2(image, 2, m as u64);
@@ -82,22 +93,47 @@ pub fn write_image(
     4 + 12 * n + m
 }
 
+// How many nodes an image has.
+pub fn node_count(image: &[u8]) -> usize
+    requires { ⌜ 4 ≤ length (now image) ⌝ }
+    ensures { λ r. ⌜ (r ≡ nodeCountIn (now (image .entry))) × (r < 2 ^ 16) ⌝ }
+{
+    le2(image, 0) as usize
+}
+
+// How many name bytes an image has.
+pub fn name_byte_count(image: &[u8]) -> usize
+    requires { ⌜ 4 ≤ length (now image) ⌝ }
+    ensures { λ r. ⌜ (r ≡ nameByteCountIn (now (image .entry))) × (r < 2 ^ 16) ⌝ }
+{
+    le2(image, 2) as usize
+}
+
+// Where the name bytes begin in an image of n nodes.
+pub fn names_start(n: usize) -> usize
+    requires { ⌜ n < 2 ^ 16 ⌝ }
+    ensures { λ r. ⌜ r ≡ namesStart n ⌝ }
+{
+    4 + 12 * n
+}
+
 // A node as it lies in the image.
 pub struct Node {
-    pub kind: u64,
+    pub kind: u32,
     pub size: usize,
     pub arg: u64,
 }
 
 // Node i of an image of n nodes.
 pub fn node_at(image: &[u8], n: usize, i: usize) -> Node
-    requires { ⌜ (4 + 12 * n ≤ length (now image)) × (i < n) ⌝ }
+    requires { ⌜ (namesStart n ≤ length (now image)) × (i < n) ⌝ }
     ensures { λ r. ⌜ nodeOf r ≡ nodeAt (now (image .entry)) n i ⌝ }
 {
     let tag = le4(image, 4 + 4 * i);
+    let kind = (tag % 256) as u32;
     let arg = le8(image, 4 + 4 * n + 8 * i);
     Node {
-        kind: tag % 256,
+        kind,
         size: (tag / 256) as usize,
         arg,
     }
@@ -105,8 +141,8 @@ pub fn node_at(image: &[u8], n: usize, i: usize) -> Node
 
 // The bytes of a name in an image of n nodes, from the argument of its node.
 pub fn name_of(image: &[u8], n: usize, arg: u64) -> &[u8]
-    requires { ⌜ 4 + 12 * n + arg / 65536 + arg % 65536 ≤ length (now image) ⌝ }
-    ensures { λ r. ⌜ now r ≡ take (arg % 65536) (drop (4 + 12 * n + arg / 65536) (now (image .entry))) ⌝ }
+    requires { ⌜ NameInside (now image) n arg ⌝ }
+    ensures { λ r. ⌜ now r ≡ nameOf (now (image .entry)) n arg ⌝ }
 {
     let start = 4 + 12 * n + (arg / 65536) as usize;
     let end = start + (arg % 65536) as usize;

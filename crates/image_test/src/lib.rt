@@ -1,13 +1,17 @@
 // Whether bytes are a rule's image: forward passes over the nodes, no recursion.
 ghost use mathlib.Core.Path.{_≡_};
 ghost use mathlib.Core.Option.{some};
-ghost use Prim.Native.Nat.{_-_, _≤_, suc, _<_, _+_, _*_};
+ghost use Prim.Native.Nat.{_-_, _≤_, suc, _<_};
 ghost use lib.ListN.{length};
 ghost use Rattle.rules.specs.Rule.{Rules};
+ghost use Rattle.image.specs.Layout.{namesStart};
 ghost use Rattle.image.specs.Decode.{cellAt, split, build, isSome, bind, only, nodeAt, nameEnd, endsAt, decode};
 ghost use Rattle.image.specs.Inner.Valid.{UpTo};
+use image::is_leaf;
+use image::name_byte_count;
+use image::names_start;
 use image::node_at;
-use little_endian::le2;
+use image::node_count;
 use slices::ascii_from;
 
 // Whether the last of the rules that the first `end` nodes make are just the nodes from `from` on.
@@ -36,10 +40,12 @@ fn node_fits(image: &[u8], n: usize, i: usize) -> bool
     let kind = node.kind;
     let size = node.size;
     let arg = node.arg;
+    if is_leaf(kind) {
+        return size == 1;
+    }
     match kind {
-        0..=2 => size == 1,
-        3..=5 => {
-            if 3 < kind {
+        image::AT_LEAST..=image::ANY => {
+            if image::AT_LEAST < kind {
                 if 0 < arg {
                     return false;
                 }
@@ -58,7 +64,7 @@ fn node_fits(image: &[u8], n: usize, i: usize) -> bool
 
 // Whether n nodes make just one rule.
 fn nodes_fit(image: &[u8], n: usize) -> bool
-    requires { ⌜ (4 + 12 * n ≤ length (now image)) × (0 < n) ⌝ }
+    requires { ⌜ (namesStart n ≤ length (now image)) × (0 < n) ⌝ }
     ensures { λ r. ⌜ r ≡ isSome (bind (build (cellAt (now (image .entry)) n) n) only) ⌝ }
 {
     let mut i = 0;
@@ -75,7 +81,7 @@ fn nodes_fit(image: &[u8], n: usize) -> bool
 
 // Whether the names of n nodes follow one another and end at m.
 fn names_run(image: &[u8], n: usize, m: usize) -> bool
-    requires { ⌜ (4 + 12 * n ≤ length (now image)) × (n ≤ 2048) ⌝ }
+    requires { ⌜ (namesStart n ≤ length (now image)) × (n ≤ 2048) ⌝ }
     ensures { λ r. ⌜ r ≡ endsAt (nameEnd (nodeAt (now (image .entry)) n) n) m ⌝ }
 {
     let mut i = 0;
@@ -84,7 +90,7 @@ fn names_run(image: &[u8], n: usize, m: usize) -> bool
         let node = node_at(image, n, i);
         let kind = node.kind;
         let arg = node.arg;
-        if kind == 0 {
+        if kind == image::NAMED {
             if arg / 65536 != end {
                 return false;
             }
@@ -102,8 +108,8 @@ pub fn is_image(image: &[u8]) -> bool
     if image.len() < 4 {
         return false;
     }
-    let n = le2(image, 0) as usize;
-    let m = le2(image, 2) as usize;
+    let n = node_count(image);
+    let m = name_byte_count(image);
     if n == 0 {
         return false;
     }
@@ -113,10 +119,11 @@ pub fn is_image(image: &[u8]) -> bool
     if 2048 < m {
         return false;
     }
-    if image.len() != 4 + 12 * n + m {
+    let start = names_start(n);
+    if image.len() != start + m {
         return false;
     }
-    if !ascii_from(image, 4 + 12 * n) {
+    if !ascii_from(image, start) {
         return false;
     }
     if !names_run(image, n, m) {

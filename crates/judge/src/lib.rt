@@ -5,7 +5,7 @@ ghost use lib.ListN.{length};
 ghost use Rattle.verdict.specs.Check.{judgeOf};
 ghost use Rattle.verdict.specs.Guarantee.{Judged};
 use check_rule::check_rule;
-use little_endian::le2;
+use image::node_count;
 use read::IMAGE_BYTES;
 use read::Reading;
 use read::TEXT_BYTES;
@@ -21,7 +21,7 @@ fn judge_in(text: &[u8], image: &mut [u8], stores: &[u8]) -> Verdict
     match read_fitting(text, image) {
         Reading::Read(size) => {
             let written = &image[..size];
-            let n = le2(written, 0) as usize;
+            let n = node_count(written);
             check_rule(written, n, stores)
         }
         Reading::Refused(f) => Verdict::Refused(f),

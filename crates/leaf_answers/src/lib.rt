@@ -1,13 +1,15 @@
 // What each leaf of a rule answers, for stores, an age and a confirmed list.
 ghost use mathlib.Core.Path.{_≡_};
-ghost use Prim.Native.Nat.{_+_, _*_, _≤_, _/_, _%_};
+ghost use Prim.Native.Nat.{_≤_};
 ghost use lib.ListN.{length};
 ghost use Rattle.rules.specs.Rule.{Leaf};
+ghost use Rattle.image.specs.Kinds.{namedKind};
 ghost use Rattle.image.specs.Decode.{aLeaf, meaning};
-ghost use Rattle.image.specs.Inner.Subtree.{Inside};
+ghost use Rattle.image.specs.Inner.Subtree.{Inside, NameInside};
 ghost use Rattle.evaluate.specs.Evict.{leafSays};
 ghost use Rattle.leaf_answers.specs.Inner.Known.{Known, worldIn, Said};
 use confirmed::is_confirmed;
+use image::is_leaf;
 use image::name_of;
 use image::node_at;
 
@@ -17,11 +19,11 @@ pub struct View {
     pub ready: u64,
 }
 
-// What a leaf says: kinds 0 to 2, each by its own line.
+// What a leaf says: each kind by its own line.
 fn leaf_says(
     image: &[u8],
     n: usize,
-    kind: u64,
+    kind: u32,
     arg: u64,
     stores: &[u8],
     list: &[u8],
@@ -30,13 +32,13 @@ fn leaf_says(
     slots: &[u8; 512],
     marks: &[u8; 64],
 ) -> bool
-    requires { ⌜ (kind ≡ 0 → 4 + 12 * n + arg / 65536 + arg % 65536 ≤ length (now image)) × Known (now stores) (now list) (now starts) (now slots) (now marks) ⌝ }
+    requires { ⌜ (kind ≡ namedKind → NameInside (now image) n arg) × Known (now stores) (now list) (now starts) (now slots) (now marks) ⌝ }
     ensures { λ r. ⌜ ((l : Leaf) → meaning (now (image .entry)) n kind arg ≡ aLeaf l → r ≡ leafSays l (worldIn (now (list .entry)) view)) ⌝ }
 {
     match kind {
-        0 => is_confirmed(name_of(image, n, arg), stores, list, starts, slots, marks),
-        1 => arg <= view.age,
-        2 => arg <= view.ready,
+        image::NAMED => is_confirmed(name_of(image, n, arg), stores, list, starts, slots, marks),
+        image::OLDER_THAN => arg <= view.age,
+        image::READABLE => arg <= view.ready,
         _ => false,
     }
 }
@@ -61,7 +63,7 @@ pub fn say_leaves(
         let node = node_at(image, n, i);
         let kind = node.kind;
         let arg = node.arg;
-        if kind < 3 {
+        if is_leaf(kind) {
             if leaf_says(
                 image,
                 n,

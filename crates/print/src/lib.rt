@@ -1,8 +1,8 @@
 // Printing: the text of the rule that an image holds, into a lent buffer.
 ghost use mathlib.Core.Path.{_≡_};
 ghost use Rattle.print.specs.Printed.{outcome, printInto};
+use image::node_count;
 use image_test::is_image;
-use little_endian::le2;
 use print_put::put_rule;
 use print_size::text_size;
 use refusals::Refusal;
@@ -26,7 +26,7 @@ pub fn print(image: &[u8], text: &mut [u8]) -> Printing
     if !is_image(image) {
         return refuse(refusals::BAD_IMAGE, 0);
     }
-    let n = le2(image, 0) as usize;
+    let n = node_count(image);
     let size = text_size(image, n, 0, n);
     if text.len() < size {
         return refuse(refusals::SHORT_BUFFER, 0);

@@ -1,8 +1,10 @@
 // The pieces of a rule's text, written from the end.
 ghost use mathlib.Core.Path.{_≡_};
-ghost use Prim.Native.Nat.{_+_, _*_, _≤_, _/_, _%_};
+ghost use Prim.Native.Nat.{_≤_};
 ghost use lib.ListN.{length};
 ghost use Rattle.slices.specs.Written.{Put};
+ghost use Rattle.image.specs.Kinds.{namedKind};
+ghost use Rattle.image.specs.Inner.Subtree.{NameInside};
 ghost use Rattle.print_text.specs.Inner.Pieces.{leafIn, openingOf, behindOf, backOf, frontOf};
 use decimal::digits::put_digits;
 use duration_text::format_duration;
@@ -11,18 +13,18 @@ use print_size::is_bracketed;
 use slices::put;
 
 // Puts a leaf's text so that it ends at a position, and answers where it begins; so do the functions below with other pieces.
-pub fn put_leaf(image: &[u8], n: usize, kind: u64, arg: u64, text: &mut [u8], end: usize) -> usize
-    requires { ⌜ (kind ≡ 0 → 4 + 12 * n + arg / 65536 + arg % 65536 ≤ length (now image)) × (length (leafIn (now image) n kind arg) ≤ end) × (end ≤ length (now text)) ⌝ }
+pub fn put_leaf(image: &[u8], n: usize, kind: u32, arg: u64, text: &mut [u8], end: usize) -> usize
+    requires { ⌜ (kind ≡ namedKind → NameInside (now image) n arg) × (length (leafIn (now image) n kind arg) ≤ end) × (end ≤ length (now text)) ⌝ }
     ensures { λ r. ⌜ Put (now (text .entry)) (now (text .exit)) r end (leafIn (now (image .entry)) n kind arg) ⌝ }
 {
     match kind {
-        0 => put(text, end, name_of(image, n, arg)),
-        1 => {
+        image::NAMED => put(text, end, name_of(image, n, arg)),
+        image::OLDER_THAN => {
             let closed = put(text, end, b")");
             let at = format_duration(text, closed, arg);
             put(text, at, b"older_than(")
         }
-        2 => {
+        image::READABLE => {
             let closed = put(text, end, b")");
             let at = put_digits(text, closed, arg);
             put(text, at, b"readable(")
@@ -32,12 +34,12 @@ pub fn put_leaf(image: &[u8], n: usize, kind: u64, arg: u64, text: &mut [u8], en
 }
 
 // What stands before a combinator's children.
-pub fn put_opening(kind: u64, arg: u64, text: &mut [u8], end: usize) -> usize
+pub fn put_opening(kind: u32, arg: u64, text: &mut [u8], end: usize) -> usize
     requires { ⌜ (length (openingOf kind arg) ≤ end) × (end ≤ length (now text)) ⌝ }
     ensures { λ r. ⌜ Put (now (text .entry)) (now (text .exit)) r end (openingOf kind arg) ⌝ }
 {
     match kind {
-        3 => {
+        image::AT_LEAST => {
             let comma = put(text, end, b", ");
             let at = put_digits(text, comma, arg);
             put(text, at, b"at_least(")
@@ -47,27 +49,27 @@ pub fn put_opening(kind: u64, arg: u64, text: &mut [u8], end: usize) -> usize
 }
 
 // What stands behind a child that is the last, or is not.
-fn put_behind(kind: u64, last: bool, text: &mut [u8], end: usize) -> usize
+fn put_behind(kind: u32, last: bool, text: &mut [u8], end: usize) -> usize
     requires { ⌜ (length (behindOf kind last) ≤ end) × (end ≤ length (now text)) ⌝ }
     ensures { λ r. ⌜ Put (now (text .entry)) (now (text .exit)) r end (behindOf kind last) ⌝ }
 {
     if last {
         match kind {
-            3 => put(text, end, b")"),
+            image::AT_LEAST => put(text, end, b")"),
             _ => end,
         }
     } else {
         match kind {
-            3 => put(text, end, b", "),
-            4 => put(text, end, b" && "),
-            5 => put(text, end, b" || "),
+            image::AT_LEAST => put(text, end, b", "),
+            image::ALL => put(text, end, b" && "),
+            image::ANY => put(text, end, b" || "),
             _ => end,
         }
     }
 }
 
 // What stands behind a child, its closing bracket included.
-pub fn put_back(kind: u64, child: u64, last: bool, text: &mut [u8], end: usize) -> usize
+pub fn put_back(kind: u32, child: u32, last: bool, text: &mut [u8], end: usize) -> usize
     requires { ⌜ (length (backOf kind child last) ≤ end) × (end ≤ length (now text)) ⌝ }
     ensures { λ r. ⌜ Put (now (text .entry)) (now (text .exit)) r end (backOf kind child last) ⌝ }
 {
@@ -79,7 +81,7 @@ pub fn put_back(kind: u64, child: u64, last: bool, text: &mut [u8], end: usize) 
 }
 
 // The opening bracket of a child that has one.
-pub fn put_front(kind: u64, child: u64, text: &mut [u8], end: usize) -> usize
+pub fn put_front(kind: u32, child: u32, text: &mut [u8], end: usize) -> usize
     requires { ⌜ (length (frontOf kind child) ≤ end) × (end ≤ length (now text)) ⌝ }
     ensures { λ r. ⌜ Put (now (text .entry)) (now (text .exit)) r end (frontOf kind child) ⌝ }
 {

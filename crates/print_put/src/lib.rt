@@ -9,6 +9,7 @@ ghost use Rattle.image.specs.Decode.{cellAt};
 ghost use Rattle.image.specs.Inner.Standing.{Stands};
 ghost use Rattle.image.specs.Inner.Subtree.{Inside};
 ghost use Rattle.print_text.specs.Print.{textOf};
+use image::is_leaf;
 use image::node_at;
 use print_pieces::put_back;
 use print_pieces::put_front;
@@ -31,7 +32,7 @@ pub fn put_rule(
     let root = node_at(image, n, at);
     let kind = root.kind;
     let arg = root.arg;
-    if kind < 3 {
+    if is_leaf(kind) {
         return put_leaf(image, n, kind, arg, text, end);
     }
     let mut stop = at;
@@ -41,7 +42,7 @@ pub fn put_rule(
         let back = child.size;
         to = put_back(kind, child.kind, stop == at, text, to);
         stop -= back;
-        if child.kind < 3 {
+        if is_leaf(child.kind) {
             to = put_leaf(image, n, child.kind, child.arg, text, to);
         } else {
             to = put_rule(image, n, stop, back, text, to);

@@ -4,8 +4,9 @@ ghost use lib.ListN.{length};
 ghost use Rattle.slices.specs.Written.{Put};
 ghost use Rattle.grammar.specs.Reading.{readOf};
 ghost use Rattle.read_line.specs.Reading.{refusalLine, readLine};
+use image::name_byte_count;
+use image::node_count;
 use lines::append_numbers;
-use little_endian::le2;
 use read::IMAGE_BYTES;
 use read::Reading;
 use refusals::Refusal;
@@ -25,7 +26,13 @@ pub fn reading_line(line: &mut [u8], text: &[u8]) -> usize
 {
     let mut image = [0u8; IMAGE_BYTES];
     match read::read(text, &mut image) {
-        Reading::Read(_) => append_numbers(line, 0, b"ok ", le2(&image, 0), le2(&image, 2)),
+        Reading::Read(_) => append_numbers(
+            line,
+            0,
+            b"ok ",
+            node_count(&image) as u64,
+            name_byte_count(&image) as u64,
+        ),
         Reading::Refused(f) => append_refusal(line, 0, f),
     }
 }

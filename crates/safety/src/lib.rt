@@ -3,8 +3,8 @@ ghost use mathlib.Core.Path.{_≡_};
 ghost use Rattle.verdict.specs.Check.{checkOf};
 ghost use Rattle.verdict.specs.Guarantee.{Checked};
 use check_rule::check_rule;
+use image::node_count;
 use image_test::is_image;
-use little_endian::le2;
 use verdict::Verdict;
 use verdict::refuse;
 
@@ -15,6 +15,6 @@ pub fn validate_safety(image: &[u8], stores: &[u8]) -> Verdict
     if !is_image(image) {
         return refuse(refusals::BAD_IMAGE, 0);
     }
-    let n = le2(image, 0) as usize;
+    let n = node_count(image);
     check_rule(image, n, stores)
 }

@@ -5,7 +5,7 @@ use mathlib.Core.List.{List}
 use Prim.Native.Nat.{ℕ}
 use Rattle.refusals.specs.Refusals.{refusal, badImage, badStoreTable, twinName, badConfirmedList}
 use Rattle.rules.specs.Rule.{Rule, size}
-use Rattle.little_endian.specs.Bytes.{leAt}
+use Rattle.image.specs.Layout.{nodeCountIn}
 use Rattle.image.specs.Decode.{isSome, cellAt, decode}
 use Rattle.image.proofs.Laws.FitLaws.{isSome-true, isSome-false}
 use Rattle.store_table.specs.Stores.{isTable, isList, entriesIn, allNames, readyCount, twinOf}
@@ -38,7 +38,7 @@ module _ (i s : List ℕ) (a : ℕ) (l : List ℕ) where
         refused-19 e = let (r, p) = isSome-true (decode i) image in sym (decide-19 i s a l p table lone e)
 
         -- b is the answer of whatever rule has all n nodes
-        pub answered : {n ready : ℕ} → isList l ≡ true → n ≡ leAt i 0 2 → ready ≡ readyCount (entriesIn s) (allNames (entriesIn l)) → (b : Bool) → ((r : Rule) → size r ≡ n → Stands r (cellAt i n) 0 → b ≡ evict r (record { age = a; ready = ready; names = allNames (entriesIn l) })) → saying b ≡ decideOf i s a l
+        pub answered : {n ready : ℕ} → isList l ≡ true → n ≡ nodeCountIn i → ready ≡ readyCount (entriesIn s) (allNames (entriesIn l)) → (b : Bool) → ((r : Rule) → size r ≡ n → Stands r (cellAt i n) 0 → b ≡ evict r (record { age = a; ready = ready; names = allNames (entriesIn l) })) → saying b ≡ decideOf i s a l
         answered is p c b says =
             let (r, e) = isSome-true (decode i) image in
             let w = decode-whole i p e in

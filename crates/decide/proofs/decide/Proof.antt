@@ -79,8 +79,8 @@ mark-confirmed-requires c κs =
     let twin = c .before .before .before .before .before .before .before .twin-of in
     (well-made-laid _ _ (the-table (c .before .before .before .before .before .before .before .before .before .before)), (well-made-laid _ _ (the-list (c .before .before .before)), (the-lone (c .before .before .before .before .before), (twin .ensures .1 (c .before .before .before .before .before .enum-told .given .1), zeros-blank 64))))
 
-le2-requires : tie.Need-le2-requires
-le2-requires c κs =
+node-count-requires : tie.Need-node-count-requires
+node-count-requires c κs =
     omega (arith, image-inside _ (the-image (c .before .before .before .before .before .before .before .before .before .before .before .before .before)) refl .long)
 
 ready-count-requires : tie.Need-ready-count-requires
@@ -88,7 +88,7 @@ ready-count-requires c κs = well-made-laid _ _ (the-table (c .before .before .b
 
 rule-says-requires : tie.Need-rule-says-requires
 rule-says-requires c κs =
-    let n = c .before .before .before .before .before .le2 .ensures .0 in
+    let n = c .before .before .before .before .before .node-count .ensures .0 in
     (image-inside _ (the-image (c .before .before .before .before .before .before .before .before .before .before .before .before .before .before .before .before .before .before .before)) n, (image-few _ (the-image (c .before .before .before .before .before .before .before .before .before .before .before .before .before .before .before .before .before .before .before)) n, record { table = well-made-laid _ _ (the-table (c .before .before .before .before .before .before .before .before .before .before .before .before .before .before .before .before .before)); listed = well-made-laid _ _ (the-list (c .before .before .before .before .before .before .before .before .before .before)); indexed = c .before .before .before .before .before .before .before .before .before .before .before .before .before .before .twin-of .ensures .1 (c .before .before .before .before .before .before .before .before .before .before .before .before .enum-told .given .1); marked = c .before .before .before .before .before .before .mark-confirmed .ensures }))
 
 -- the rule's own answer is what deciding gives
@@ -96,7 +96,7 @@ the-answer : (c : tie.After-rule-says) →
     let s = c .before .before .before .before .before .before .before .before .before .before .before .before .before .before .before .before .before .before .before .before .before .before .before .before .before .args in
     saying (c .rule-says .result) ≡ decideOf (s .image .now) (s .stores .now) (s .age) (s .list .now)
 the-answer c =
-    answered _ _ _ _ (the-image (c .before .before .before .before .before .before .before .before .before .before .before .before .before .before .before .before .before .before .before .before)) (the-table (c .before .before .before .before .before .before .before .before .before .before .before .before .before .before .before .before .before .before)) (the-lone (c .before .before .before .before .before .before .before .before .before .before .before .before .before)) (the-list (c .before .before .before .before .before .before .before .before .before .before .before)) (c .before .before .before .before .before .before .le2 .ensures .0) (c .before .before .before .before .ready-count .ensures _ (c .before .before .before .before .before .before .before .mark-confirmed .ensures)) (c .rule-says .result) (c .rule-says .ensures)
+    answered _ _ _ _ (the-image (c .before .before .before .before .before .before .before .before .before .before .before .before .before .before .before .before .before .before .before .before)) (the-table (c .before .before .before .before .before .before .before .before .before .before .before .before .before .before .before .before .before .before)) (the-lone (c .before .before .before .before .before .before .before .before .before .before .before .before .before)) (the-list (c .before .before .before .before .before .before .before .before .before .before .before)) (c .before .before .before .before .before .before .node-count .ensures .0) (c .before .before .before .before .ready-count .ensures _ (c .before .before .before .before .before .before .before .mark-confirmed .ensures)) (c .rule-says .result) (c .rule-says .ensures)
 
 returns-5 : tie.Need-returns-5
 returns-5 c = sym (ap saying (c .if4 .taken)) ∙ the-answer (c .before)
@@ -123,7 +123,7 @@ decide-spec =
     refuse-requires-4
     returns-4
     mark-confirmed-requires
-    le2-requires
+    node-count-requires
     ready-count-requires
     rule-says-requires
     returns-5

@@ -1,12 +1,13 @@
 -- `details::append_node` meets its contract: the text is read into a buffer, and the node's name stands in the image there.
 -- Assumes nothing.
 use mathlib.Core.Path.{_≡_, refl, sym}
-use Prim.Native.Nat.{_+_, _*_, _/_, _%_, _≤_}
 use native.Mathlib.Omega.{arith}
-use lib.ListN.{length, take, length-take}
+use lib.ListN.{take, length-take}
 use lib.Seq.{length-take-le}
 use Rattle.slices.proofs.Laws.WrittenLaws.{put-none}
 use Rattle.lines.specs.Lines.{shownAll}
+use Rattle.image.specs.Kinds.{namedKind}
+use Rattle.image.specs.Inner.Subtree.{NameInside}
 use Rattle.image.proofs.Laws.CellLaws.{name-inside}
 use Rattle.read.proofs.Laws.FoundLaws.{Found, read-refused, read-rule}
 use Rattle.details.proofs.Laws.NodeNameLaws.{taken-short, taken-whole, name-past, name-here, name-not}
@@ -40,20 +41,20 @@ array-share-prefix-image c = the-rule c .within
 slice-aggregate-written : tie.Need-slice-aggregate-written
 slice-aggregate-written c = sym (length-take-le _ _ (the-rule (c .before) .within))
 
-le2-requires : tie.Need-le2-requires
-le2-requires c κs = omega (arith, taken-whole (the-rule (c .before)) refl .inside .long)
+node-count-requires : tie.Need-node-count-requires
+node-count-requires c κs = omega (arith, taken-whole (the-rule (c .before)) refl .inside .long)
 
 returns-2 : tie.Need-returns-2
 unfolding shownAll
-returns-2 c = rw (name-past (the-rule (c .before .before .before)) (c .before .le2 .ensures .0) (c .if1 .taken)) (put-none _ _)
+returns-2 c = rw (name-past (the-rule (c .before .before .before)) (c .before .node-count .ensures .0) (c .if1 .taken)) (put-none _ _)
 
 node-at-requires : tie.Need-node-at-requires
-node-at-requires c κs = (taken-whole (the-rule (c .before .before .before)) (c .before .le2 .ensures .0) .inside .long, c .if1 .left)
+node-at-requires c κs = (taken-whole (the-rule (c .before .before .before)) (c .before .node-count .ensures .0) .inside .long, c .if1 .left)
 
 -- a name's bytes lie in it
-name-in : (c : tie.After-node-at) → c .node-at .result .kind ≡ 0 → 4 + 12 * c .before .before .le2 .result + c .node-at .result .arg / 65536 + c .node-at .result .arg % 65536 ≤ length (take (c .before .before .before .before .before .size .given .0 .0) (c .before .before .before .before .before .before .before .before .read .last .1 .0))
+name-in : (c : tie.After-node-at) → c .node-at .result .kind ≡ namedKind → NameInside (take (c .before .before .before .before .before .size .given .0 .0) (c .before .before .before .before .before .before .before .before .read .last .1 .0)) (c .before .before .node-count .result) (c .node-at .result .arg)
 name-in c k =
-    let w = taken-whole (the-rule (c .before .before .before .before)) (c .before .before .le2 .ensures .0) in
+    let w = taken-whole (the-rule (c .before .before .before .before)) (c .before .before .node-count .ensures .0) in
     name-inside _ _ _ (c .node-at .ensures) (w .inside .names) (c .before .if1 .left) k
 
 name-of-requires : tie.Need-name-of-requires
@@ -70,14 +71,14 @@ same-length c = search needs
 returns-3 : tie.Need-returns-3
 returns-3 c =
     let d = c .before .before .before .before .before .before in
-    rw (name-here (the-rule (d .before .before .before .before)) (d .before .before .le2 .ensures .0) (d .node-at .ensures) (d .before .if1 .left) (c .before .before .before .before .before .if2 .taken) (c .before .before .before .name-of .ensures))
+    rw (name-here (the-rule (d .before .before .before .before)) (d .before .before .node-count .ensures .0) (d .node-at .ensures) (d .before .if1 .left) (c .before .before .before .before .before .if2 .taken) (c .before .before .before .name-of .ensures))
     (c .before .before .append-shown .ensures)
 
 returns-4 : tie.Need-returns-4
 unfolding shownAll
 returns-4 c =
     let d = c .before in
-    rw (name-not (the-rule (d .before .before .before .before)) (d .before .before .le2 .ensures .0) (d .node-at .ensures) (d .before .if1 .left) (c .if2 .left)) (put-none _ _)
+    rw (name-not (the-rule (d .before .before .before .before)) (d .before .before .node-count .ensures .0) (d .node-at .ensures) (d .before .if1 .left) (c .if2 .left)) (put-none _ _)
 
 pub append-node-spec : {M : Type 1} → statement M
 append-node-spec =
@@ -90,7 +91,7 @@ append-node-spec =
     returns
     array-share-prefix-image
     slice-aggregate-written
-    le2-requires
+    node-count-requires
     returns-2
     node-at-requires
     name-of-requires

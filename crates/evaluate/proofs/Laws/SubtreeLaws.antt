@@ -13,7 +13,7 @@ use Rattle.image.specs.Inner.Standing.{Stands, StandAll}
 use Rattle.evaluate.specs.Evict.{yeses, joinSays}
 use Rattle.evaluate.specs.Inner.By.{evictBy, answersBy}
 use Rattle.image.specs.Inner.Subtree.{Subtree}
-use Rattle.evaluate.proofs.Laws.MeaningLaws.{NoLeaf, NoJoin}
+use Rattle.image.proofs.Laws.KindLaws.{NoLeaf, NoJoin}
 
 yeses-moved : (b : Bool) (bs : List Bool) (y z : ℕ) → z ≡ cond b (suc y) y → z + yeses bs ≡ y + yeses (b ∷ bs)
 unfolding yeses

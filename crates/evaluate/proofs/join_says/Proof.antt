@@ -1,6 +1,7 @@
 -- `evaluate::join_says` meets its contract: each kind has its own line, and the other kinds are no combinator's. Assumes nothing.
 use native.Mathlib.Omega.{arith}
-use Rattle.evaluate.proofs.Laws.MeaningLaws.{no-join, kind-atLeast, kind-all, kind-any}
+use Rattle.image.proofs.Laws.KindLaws.{no-join}
+use Rattle.evaluate.proofs.Laws.MeaningLaws.{kind-atLeast, kind-all, kind-any}
 use Rattle.evaluate.proofs.join_says.Statement.{statement}
 use Rattle.evaluate.proofs.join_says.Tie as tie
 

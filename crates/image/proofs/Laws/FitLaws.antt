@@ -3,17 +3,19 @@ use mathlib.Core.Path.{_≡_, refl, sym, ap, _∙_}
 use mathlib.Core.Bool.{Bool, true, false}
 use mathlib.Core.List.{List}
 use mathlib.Core.Option.{Option, none, some}
-use Prim.Native.Nat.{ℕ, zero, suc, _+_, _-_, _*_, _/_, _%_, _≤_, _<_}
+use Prim.Native.Nat.{ℕ, zero, suc, _+_, _-_, _≤_, _<_}
 use native.Mathlib.Nat.{add-zero, add-suc, add-sub-of-le}
 use native.Mathlib.Omega.{arith}
 use lib.Dec.{leb, eqb}
-use lib.ListN.{take, drop}
 use borrow.Author.Tests.{lt-leb, eq-eqb, ne-eqb}
 use Rattle.rules.specs.Rule.{Leaf, named, olderThan, readable, Join, atLeast, all, any, Rule, leaf, Rules, nil, more, size, sizes}
+use Rattle.image.specs.Kinds.{readableKind, atLeastKind, anyKind, isLeaf}
+use Rattle.image.specs.Layout.{nameOf}
 use Rattle.image.specs.Decode.{when, bind, isSome, Node, nodeAt, Meaning, aLeaf, aJoin, nothing, argument0, meaning, Cell, cellAt, split, close, place, build, only}
 use Rattle.image.specs.Inner.Standing.{Stands, StandAll}
 use Rattle.image.proofs.Laws.StandingLaws.{root-size, Built, built}
 use Rattle.image.proofs.Laws.EncodeLaws.{size-pos}
+use Rattle.image.proofs.Laws.KindLaws.{leaf-low, leaf-high}
 use Rattle.image.proofs.Laws.BuildLaws.{split-zero, split-more, closed, sizes-close}
 
 pub isSome-true : {A : Type 0} (o : Option A) → isSome o ≡ true → (a : A) × (o ≡ some a)
@@ -140,19 +142,19 @@ argument-more (suc a) j h = refl
 
 -- a node whose kind and argument are a combinator's
 pub record Joins (d : Node) : Type 0 where
-  pub low : 3 ≤ d .kind
-  pub high : d .kind < 6
-  pub plain : 3 < d .kind → d .arg ≤ 0
+  pub low : atLeastKind ≤ d .kind
+  pub high : d .kind ≤ anyKind
+  pub plain : atLeastKind < d .kind → d .arg ≤ 0
 
 module _ (s : List ℕ) (n : ℕ) where
-  is-leaf : (k a : ℕ) → k < 3 → (l : Leaf) × (meaning s n k a ≡ aLeaf l)
+  is-leaf : (k a : ℕ) → k ≤ readableKind → (l : Leaf) × (meaning s n k a ≡ aLeaf l)
   unfolding meaning
-  is-leaf zero a h = (named (take (a % 65536) (drop (4 + 12 * n + a / 65536) s)), refl)
+  is-leaf zero a h = (named (nameOf s n a), refl)
   is-leaf (suc zero) a h = (olderThan a, refl)
   is-leaf (suc (suc zero)) a h = (readable a, refl)
   is-leaf (suc (suc (suc k))) a h = absurd (omega arith)
 
-  is-join : (k a : ℕ) → 3 ≤ k → k < 6 → (3 < k → a ≤ 0) → (j : Join) × (meaning s n k a ≡ aJoin j)
+  is-join : (k a : ℕ) → atLeastKind ≤ k → k ≤ anyKind → (atLeastKind < k → a ≤ 0) → (j : Join) × (meaning s n k a ≡ aJoin j)
   unfolding meaning
   is-join zero a h i p = absurd (omega arith)
   is-join (suc zero) a h i p = absurd (omega arith)
@@ -162,15 +164,15 @@ module _ (s : List ℕ) (n : ℕ) where
   is-join (suc (suc (suc (suc (suc zero))))) a h i p = (any, argument-0 a any (p (omega arith)))
   is-join (suc (suc (suc (suc (suc (suc k)))))) a h i p = absurd (omega arith)
 
-  is-nothing : (k a : ℕ) → 3 < k → (k < 6 → 0 < a) → meaning s n k a ≡ nothing
+  is-nothing : (k a : ℕ) → isLeaf k ≡ false → (k ≡ atLeastKind → ⊥) → (atLeastKind ≤ k → k ≤ anyKind → 0 < a) → meaning s n k a ≡ nothing
   unfolding meaning
-  is-nothing zero a h p = absurd (omega arith)
-  is-nothing (suc zero) a h p = absurd (omega arith)
-  is-nothing (suc (suc zero)) a h p = absurd (omega arith)
-  is-nothing (suc (suc (suc zero))) a h p = absurd (omega arith)
-  is-nothing (suc (suc (suc (suc zero)))) a h p = argument-more a all (p (omega arith))
-  is-nothing (suc (suc (suc (suc (suc zero))))) a h p = argument-more a any (p (omega arith))
-  is-nothing (suc (suc (suc (suc (suc (suc k)))))) a h p = refl
+  is-nothing zero a h q p = absurd (omega (arith, leaf-high zero h))
+  is-nothing (suc zero) a h q p = absurd (omega (arith, leaf-high (suc zero) h))
+  is-nothing (suc (suc zero)) a h q p = absurd (omega (arith, leaf-high (suc (suc zero)) h))
+  is-nothing (suc (suc (suc zero))) a h q p = absurd (q refl)
+  is-nothing (suc (suc (suc (suc zero)))) a h q p = argument-more a all (p (omega arith) (omega arith))
+  is-nothing (suc (suc (suc (suc (suc zero))))) a h q p = argument-more a any (p (omega arith) (omega arith))
+  is-nothing (suc (suc (suc (suc (suc (suc k)))))) a h q p = refl
 
   pub cell-size : (i : ℕ) {d : Node} → d ≡ nodeAt s n i → d .size ≡ cellAt s n i .size
   unfolding cellAt
@@ -184,19 +186,19 @@ module _ (s : List ℕ) (n : ℕ) where
         let (rs, p) = isSome-true (build (cellAt s n) i) ready in
         sym (rw (p, ← e, m) (h rs p))
 
-    pub fits-leaf : d .kind < 3 → eqb (d .size) 1 ≡ isSome (build (cellAt s n) (suc i))
+    pub fits-leaf : isLeaf (d .kind) ≡ true → eqb (d .size) 1 ≡ isSome (build (cellAt s n) (suc i))
     unfolding place
     fits-leaf h =
-        let (l, m) = is-leaf (d .kind) (d .arg) h in
+        let (l, m) = is-leaf (d .kind) (d .arg) (leaf-low (d .kind) h) in
         fits-when (aLeaf l) (eqb (d .size) 1) m (λ rs p. by (eqb (d .size) 1) (more rs (leaf l)))
       where
         by : (b : Bool) (rs : Rules) → isSome (when b (some rs)) ≡ b
         by true rs = refl
         by false rs = refl
 
-    pub fits-unknown : 3 < d .kind → (d .kind < 6 → 0 < d .arg) → false ≡ isSome (build (cellAt s n) (suc i))
+    pub fits-unknown : isLeaf (d .kind) ≡ false → (d .kind ≡ atLeastKind → ⊥) → (atLeastKind ≤ d .kind → d .kind ≤ anyKind → 0 < d .arg) → false ≡ isSome (build (cellAt s n) (suc i))
     unfolding place
-    fits-unknown h p = fits-when nothing false (is-nothing (d .kind) (d .arg) h p) (λ rs q. refl)
+    fits-unknown h q p = fits-when nothing false (is-nothing (d .kind) (d .arg) h q p) (λ rs e. refl)
 
     module _ (joins : Joins d) where
       a-join : (j : Join) × (meaning s n (d .kind) (d .arg) ≡ aJoin j)

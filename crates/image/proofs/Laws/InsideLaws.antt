@@ -9,8 +9,9 @@ use native.Mathlib.Nat.{eq-or-lt-of-le}
 use native.Mathlib.Omega.{arith}
 use lib.ListN.{drop}
 use Rattle.rules.specs.Rule.{Rule, size}
-use Rattle.little_endian.specs.Bytes.{leAt}
 use Rattle.slices.specs.Text.{allAscii}
+use Rattle.image.specs.Kinds.{namedKind}
+use Rattle.image.specs.Layout.{nodeCountIn, nameByteCountIn, namesStart}
 use Rattle.image.specs.Decode.{isSome, Node, nodeAt, cellAt, build, only, nameEnd, endsAt, decodeParts, decode}
 use Rattle.image.specs.Decode.{sized as lengths}
 use Rattle.image.proofs.Laws.BuildLaws.{when-some, bind-some}
@@ -23,7 +24,7 @@ use Rattle.image.specs.Inner.Subtree.{NamesInside, Inside}
 
 -- ---- names that end at t lie before it
 
-name-before : (f : ℕ → Node) (n t : ℕ) → nameEnd f n ≡ some t → (i : ℕ) → i < n → f i .kind ≡ 0 → f i .arg / 65536 + f i .arg % 65536 ≤ t
+name-before : (f : ℕ → Node) (n t : ℕ) → nameEnd f n ≡ some t → (i : ℕ) → i < n → f i .kind ≡ namedKind → f i .arg / 65536 + f i .arg % 65536 ≤ t
 unfolding nameEnd
 name-before f zero t e i lt h = absurd (omega arith)
 name-before f (suc n) t e i lt h =
@@ -45,7 +46,7 @@ parts-whole : (s : List ℕ) (n m : ℕ) (r : Rule) → decodeParts s n m ≡ so
 unfolding decodeParts size Stands NamesInside
 parts-whole s n m r e =
     let (t₁, e₁) = when-some (lengths s n m) _ e in
-    let (t₂, e₂) = when-some (allAscii (drop (4 + 12 * n) s)) _ e₁ in
+    let (t₂, e₂) = when-some (allAscii (drop (namesStart n) s)) _ e₁ in
     let (t₃, e₃) = when-some (endsAt (nameEnd (nodeAt s n) n) m) _ e₂ in
     let (rs, e₄, e₅) = bind-some (build (cellAt s n) n) only e₃ in
     let (pos, few, short, long) = sized-true s n m t₁ in
@@ -59,13 +60,13 @@ parts-whole s n m r e =
       few = few;
     }
 
--- n is what the first two bytes say
-pub decode-whole : (s : List ℕ) {n : ℕ} {r : Rule} → n ≡ leAt s 0 2 → decode s ≡ some r → Whole s n r
+-- n is the number of nodes that the image says
+pub decode-whole : (s : List ℕ) {n : ℕ} {r : Rule} → n ≡ nodeCountIn s → decode s ≡ some r → Whole s n r
 unfolding decode
-decode-whole s {n} {r} p e = parts-whole s n (leAt s 2 2) r (rw p e)
+decode-whole s {n} {r} p e = parts-whole s n (nameByteCountIn s) r (rw p e)
 
-pub image-inside : (s : List ℕ) {n : ℕ} → isSome (decode s) ≡ true → n ≡ leAt s 0 2 → Inside s n 0 n
+pub image-inside : (s : List ℕ) {n : ℕ} → isSome (decode s) ≡ true → n ≡ nodeCountIn s → Inside s n 0 n
 image-inside s is p = let (r, e) = isSome-true (decode s) is in decode-whole s p e .inside
 
-pub image-few : (s : List ℕ) {n : ℕ} → isSome (decode s) ≡ true → n ≡ leAt s 0 2 → n ≤ 2048
+pub image-few : (s : List ℕ) {n : ℕ} → isSome (decode s) ≡ true → n ≡ nodeCountIn s → n ≤ 2048
 image-few s is p = let (r, e) = isSome-true (decode s) is in decode-whole s p e .few

@@ -13,6 +13,9 @@ add-le4 c = search needs
 le4-requires : tie.Need-le4-requires
 le4-requires c κs = search needs
 
+cast-kind : tie.Need-cast-kind
+cast-kind c = search needs
+
 mul-le8 : tie.Need-mul-le8
 mul-le8 c = search needs
 
@@ -39,6 +42,7 @@ node-at-spec =
     mul-le4
     add-le4
     le4-requires
+    cast-kind
     mul-le8
     add-le8
     mul-le8-2

@@ -1,9 +1,11 @@
 -- A rule in a row of nodes: what a function that walks a part of an image asks. Assumes nothing.
-use Prim.Native.Nat.{ℕ, _+_, _*_, _/_, _%_, _≤_, _<_}
+use Prim.Native.Nat.{ℕ, _+_, _/_, _%_, _≤_, _<_}
 use mathlib.Core.Path.{_≡_}
 use mathlib.Core.List.{List}
 use lib.ListN.{length}
 use Rattle.rules.specs.Rule.{Rule, size}
+use Rattle.image.specs.Kinds.{namedKind}
+use Rattle.image.specs.Layout.{namesStart}
 use Rattle.image.specs.Decode.{Cell, cellAt, nodeAt}
 use Rattle.image.specs.Inner.Standing.{Stands}
 
@@ -13,19 +15,23 @@ pub record Subtree (f : ℕ → Cell) (from k : ℕ) : Type 0 where
   pub sized : size rule ≡ k
   pub stands : Stands rule f from
 
--- the names of an image of n nodes lie inside it
+-- the name that an argument tells of lies inside an image of n nodes
+abbrev pub NameInside : List ℕ → ℕ → ℕ → Type 0
+NameInside s n arg = namesStart n + arg / 65536 + arg % 65536 ≤ length s
+
+-- so do the names of all n nodes
 unfoldable pub NamesInside : List ℕ → ℕ → Type 0
-NamesInside s n = (i : ℕ) → i < n → nodeAt s n i .kind ≡ 0 → 4 + 12 * n + nodeAt s n i .arg / 65536 + nodeAt s n i .arg % 65536 ≤ length s
+NamesInside s n = (i : ℕ) → i < n → nodeAt s n i .kind ≡ namedKind → NameInside s n (nodeAt s n i .arg)
 
 -- n nodes, of which the k from `from` on are a rule's, whatever its leaves are
 pub record Row (s : List ℕ) (n from k : ℕ) : Type 0 where
-  pub long : 4 + 12 * n ≤ length s
+  pub long : namesStart n ≤ length s
   pub within : from + k ≤ n
   pub here : Subtree (cellAt s n) from k
 
 -- an image of n nodes, of which the k from `from` on are a rule's
 pub record Inside (s : List ℕ) (n from k : ℕ) : Type 0 where
-  pub long : 4 + 12 * n ≤ length s
+  pub long : namesStart n ≤ length s
   pub names : NamesInside s n
   pub within : from + k ≤ n
   pub here : Subtree (cellAt s n) from k

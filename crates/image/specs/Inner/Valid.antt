@@ -1,9 +1,10 @@
 -- What the test of an image asks and promises. Assumes nothing.
-use Prim.Native.Nat.{ℕ, _+_, _*_, _≤_}
+use Prim.Native.Nat.{ℕ, _≤_}
 use mathlib.Core.Path.{_≡_}
 use mathlib.Core.Bool.{true}
 use mathlib.Core.List.{List}
 use lib.ListN.{length}
+use Rattle.image.specs.Layout.{namesStart}
 use Rattle.image.specs.Decode as decoding
 use Rattle.image.specs.Decode.{isSome, build, cellAt}
 use Rattle.image.specs.declared.Node.{Node}
@@ -14,6 +15,6 @@ nodeOf d = record { kind = d .kind; size = d .size; arg = d .arg }
 
 -- an image of n nodes, of which the first i make rules, in order
 pub record UpTo (s : List ℕ) (n i : ℕ) : Type 0 where
-  pub long : 4 + 12 * n ≤ length s
+  pub long : namesStart n ≤ length s
   pub within : i ≤ n
   pub ready : isSome (build (cellAt s n) i) ≡ true

@@ -29,11 +29,11 @@ slice-reshare-prefix-written c = the-image c .0
 slice-aggregate-written : tie.Need-slice-aggregate-written
 slice-aggregate-written c = sym (length-take-le _ _ (the-image (c .before) .0))
 
-le2-requires : tie.Need-le2-requires
-le2-requires c κs = omega (arith, image-inside _ (the-image (c .before) .1) refl .long)
+node-count-requires : tie.Need-node-count-requires
+node-count-requires c κs = omega (arith, image-inside _ (the-image (c .before) .1) refl .long)
 
 check-rule-requires : tie.Need-check-rule-requires
-check-rule-requires c κs = let i = the-image (c .before .before) .1 in (image-inside _ i (c .le2 .ensures .0), image-few _ i (c .le2 .ensures .0))
+check-rule-requires c κs = let i = the-image (c .before .before) .1 in (image-inside _ i (c .node-count .ensures .0), image-few _ i (c .node-count .ensures .0))
 
 enum-known-f : tie.Need-enum-known-f
 enum-known-f c = search needs
@@ -43,7 +43,7 @@ same-length c = search needs
 
 returns : tie.Need-returns
 returns c =
-    checks-image _ (the-image (c .before .before .before) .1) (c .before .le2 .ensures .0) _ (c .check-rule .ensures)
+    checks-image _ (the-image (c .before .before .before) .1) (c .before .node-count .ensures .0) _ (c .check-rule .ensures)
     ∙ judges _ _ _ (c .before .before .before .before .before .before .before .before .read-fitting .ensures) (c .before .before .before .before .size .given .1)
 
 same-length-2 : tie.Need-same-length-2
@@ -60,7 +60,7 @@ judge-in-spec =
     enum-known-size
     slice-reshare-prefix-written
     slice-aggregate-written
-    le2-requires
+    node-count-requires
     check-rule-requires
     enum-known-f
     same-length

@@ -11,7 +11,7 @@ use Rattle.slices.proofs.Laws.WrittenLaws.{after-set}
 use Rattle.rules.specs.Rule.{Leaf}
 use Rattle.image.specs.Decode.{aLeaf, cellAt}
 use Rattle.evaluate.specs.Evict.{World, leafSays}
-use Rattle.evaluate.proofs.Laws.MeaningLaws.{NoLeaf}
+use Rattle.image.proofs.Laws.KindLaws.{NoLeaf}
 use Rattle.leaf_answers.specs.Inner.Known.{SaidTo}
 
 module _ (s : List ℕ) (n : ℕ) (says : List ℕ) (least : ℕ) (w : World) {i : ℕ} (h : SaidTo s n says least w i) where

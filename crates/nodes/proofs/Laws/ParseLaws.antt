@@ -13,6 +13,7 @@ use Rattle.refusals.specs.Refusals.{refusal, openBracket, emptyList}
 use Rattle.tokens.specs.declared.Token.{Token}
 use Rattle.tokens.specs.Token.{tokensFrom}
 use Rattle.rules.specs.Rule.{Leaf, named, olderThan, readable, Join, all, any, Rule, leaf, node, Rules, nil, more, size, sizes}
+use Rattle.image.specs.Kinds.{namedKind}
 use Rattle.image.specs.Encode.{leafKind, joinKind, tag, leafArg, joinArg, leafName, tags, tagsAll, args, argsAll, names, namesAll}
 use Rattle.image.proofs.Laws.EncodeLaws.{length-tags, length-tagsAll}
 use Rattle.grammar.specs.Grammar.{Rest, rest, missing, after, andSign, orSign, commaSign, closeSign, firstPlace, aLeaf, aGroup, aList, refused, headIn, chain, Got, got, bad, onto, onRest, closeAfter, orIn, orMore, andIn, andMore, primaryIn, listMore}
@@ -244,7 +245,7 @@ module _ (s : List ℕ) (d at : ℕ) where
   -- and of a name
   pub named-part : {cap e n m from to : ℕ} {b a : Arrays} → headIn s d (tokensFrom s at) ≡ aLeaf (named (part s from to)) (tokensFrom s e)
       → (at < e) × (e ≤ length s) × (left s e < left s at) → (at ≤ from) × (from ≤ to) × (to ≤ e) → Long cap b → n < cap
-      → a .tags ≡ set (b .tags) n (tag 0 1) → a .args ≡ set (b .args) n (m * 65536 + (to - from))
+      → a .tags ≡ set (b .tags) n (tag namedKind 1) → a .args ≡ set (b .args) n (m * 65536 + (to - from))
       → take (m + (to - from)) (a .names) ≡ take m (b .names) ++ part s from to
       → Read (λ (f : ℕ). primaryIn f s d (tokensFrom s at)) (3 * left s at + 1) s at n m b a e (n + 1) (m + (to - from))
   named-part {n = n} {m = m} {from = from} {to = to} {b = b} q h i lb lt p₁ p₂ p₃ =

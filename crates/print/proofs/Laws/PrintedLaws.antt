@@ -10,7 +10,7 @@ use Rattle.slices.specs.Written.{Put}
 use Rattle.slices.proofs.Laws.WrittenLaws.{written-front}
 use Rattle.refusals.specs.Refusals.{refusal, shortBuffer, badImage}
 use Rattle.rules.specs.Rule.{Rule, size}
-use Rattle.little_endian.specs.Bytes.{leAt}
+use Rattle.image.specs.Layout.{nodeCountIn}
 use Rattle.image.specs.Decode.{isSome, cellAt, decode}
 use Rattle.image.proofs.Laws.FitLaws.{isSome-true, isSome-false}
 use Rattle.image.specs.Inner.Standing.{Stands}
@@ -26,7 +26,7 @@ module _ (i t : List ℕ) where
   refused-16 e = rw (isSome-false (decode i) e)
 
   -- k is the length of the text of whatever rule has all n nodes
-  module _ (image : isSome (decode i) ≡ true) {n k : ℕ} (p : n ≡ leAt i 0 2) (long : (r : Rule) → size r ≡ n → Stands r (cellAt i n) 0 → k ≡ length (textOf r)) where
+  module _ (image : isSome (decode i) ≡ true) {n k : ℕ} (p : n ≡ nodeCountIn i) (long : (r : Rule) → size r ≡ n → Stands r (cellAt i n) 0 → k ≡ length (textOf r)) where
     pub refused-1 : length t < k → outcome (Refused (refusal shortBuffer 0)) t ≡ printInto i t
     unfolding printInto
     refused-1 short =

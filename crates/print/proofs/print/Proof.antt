@@ -23,22 +23,22 @@ refuse-requires c κs = search needs
 returns : tie.Need-returns
 returns c = rw (c .refuse .ensures) (refused-16 _ _ (sym (c .before .before .is-image .ensures) ∙ not-true _ (c .before .if1 .taken)))
 
-le2-requires : tie.Need-le2-requires
-le2-requires c κs = omega (arith, image-inside _ (the-image c) refl .long)
+node-count-requires : tie.Need-node-count-requires
+node-count-requires c κs = omega (arith, image-inside _ (the-image c) refl .long)
 
 text-size-requires : tie.Need-text-size-requires
-text-size-requires c κs = (image-inside _ (the-image (c .before)) (c .le2 .ensures .0), image-few _ (the-image (c .before)) (c .le2 .ensures .0))
+text-size-requires c κs = (image-inside _ (the-image (c .before)) (c .node-count .ensures .0), image-few _ (the-image (c .before)) (c .node-count .ensures .0))
 
 refuse-requires-2 : tie.Need-refuse-requires-2
 refuse-requires-2 c κs = search needs
 
 returns-2 : tie.Need-returns-2
-returns-2 c = rw (c .refuse2 .ensures) (refused-1 _ _ (the-image (c .before .before .before .before)) (c .before .before .before .le2 .ensures .0) (c .before .before .text-size .ensures) (c .before .if2 .taken))
+returns-2 c = rw (c .refuse2 .ensures) (refused-1 _ _ (the-image (c .before .before .before .before)) (c .before .before .before .node-count .ensures .0) (c .before .before .text-size .ensures) (c .before .if2 .taken))
 
 put-rule-requires : tie.Need-put-rule-requires
 put-rule-requires c κs =
     let e = c .before in
-    (image-inside _ (the-image (e .before .before .before)) (e .before .before .le2 .ensures .0), λ r z st. omega (arith, e .before .text-size .ensures r z st), omega (arith, e .if2 .left))
+    (image-inside _ (the-image (e .before .before .before)) (e .before .before .node-count .ensures .0), λ r z st. omega (arith, e .before .text-size .ensures r z st), omega (arith, e .if2 .left))
 
 same-length : tie.Need-same-length
 same-length c = search needs
@@ -46,7 +46,7 @@ same-length c = search needs
 returns-3 : tie.Need-returns-3
 returns-3 c =
     let e = c .before .before .before .before in
-    printed _ _ (the-image (e .before .before .before)) (e .before .before .le2 .ensures .0) (e .before .text-size .ensures) (e .if2 .left) (c .before .before .put-rule .ensures)
+    printed _ _ (the-image (e .before .before .before)) (e .before .before .node-count .ensures .0) (e .before .text-size .ensures) (e .if2 .left) (c .before .before .put-rule .ensures)
 
 pub print-spec : {M : Type 1} → statement M
 print-spec =
@@ -55,7 +55,7 @@ print-spec =
     is-image-requires
     refuse-requires
     returns
-    le2-requires
+    node-count-requires
     text-size-requires
     refuse-requires-2
     returns-2

@@ -1,6 +1,6 @@
 -- `print_put::put_rule` meets its contract: the walk over the children keeps what is put, and each child has fewer nodes than its
 -- parent. Assumes nothing.
-use mathlib.Core.Path.{_≡_, ap}
+use mathlib.Core.Path.{_≡_, sym, ap, _∙_}
 use mathlib.Core.Logic.{⊎-elim}
 use Prim.Native.Nat.{ℕ, _+_, _-_, _≤_, _<_}
 use native.Mathlib.Omega.{arith}
@@ -22,6 +22,7 @@ use Rattle.print_text.proofs.Laws.PutLaws.{pieces-room, child-room, put-start}
 use Rattle.print_put.proofs.put_rule.Reads as put-rule
 use Rattle.print_put.proofs.put_rule.Kinds as put-rule-kinds
 use Rattle.print_put.proofs.+put_rule.Lts-put_rule as put-rule-lts
+use Rattle.image.proofs.is_leaf.Reads as is-leaf-reads
 use Rattle.image.proofs.node_at.Reads as node-at-reads
 use Rattle.print_pieces.proofs.put_back.Reads as put-back-reads
 use Rattle.print_pieces.proofs.put_front.Reads as put-front-reads
@@ -42,7 +43,7 @@ put-rule-below t =
 
 -- what the callees ask and give
 abbrev given : ℕ → put-rule-lts.Claims
-given t = (node-at-reads.Asked, node-at-reads.Learnt, put-leaf-reads.Asked, put-leaf-reads.Learnt, put-back-reads.Asked, put-back-reads.Learnt, put-rule-below t, put-rule.Post, put-front-reads.Asked, put-front-reads.Learnt, put-opening-reads.Asked, put-opening-reads.Learnt)
+given t = (node-at-reads.Asked, node-at-reads.Learnt, is-leaf-reads.Asked, is-leaf-reads.Learnt, put-leaf-reads.Asked, put-leaf-reads.Learnt, put-back-reads.Asked, put-back-reads.Learnt, put-rule-below t, put-rule.Post, put-front-reads.Asked, put-front-reads.Learnt, put-opening-reads.Asked, put-opening-reads.Learnt)
 
 abbrev put-rule-Inv-loop : put-rule-lts.InvT-loop
 put-rule-Inv-loop image n from size text₀ end at kind arg stop₀ to₀ text stop to =
@@ -69,13 +70,16 @@ put-rule-sub-at t c = omega (arith, the-node t (c .before .before))
 put-rule-node-at-requires : (t : ℕ) → put-rule-lts.Need-node-at-requires (given t) (put-rule-at t) put-rule.Post put-rule-Inv-loop put-rule-μ-loop
 put-rule-node-at-requires t c κs = (c .before .before .pre .1 .0 .long, omega (arith, the-node t (c .before .before)))
 
+put-rule-is-leaf-requires : (t : ℕ) → put-rule-lts.Need-is-leaf-requires (given t) (put-rule-at t) put-rule.Post put-rule-Inv-loop put-rule-μ-loop
+put-rule-is-leaf-requires t c κs = search needs
+
 put-rule-put-leaf-requires : (t : ℕ) → put-rule-lts.Need-put-leaf-requires (given t) (put-rule-at t) put-rule.Post put-rule-Inv-loop put-rule-μ-loop
 put-rule-put-leaf-requires t c κs =
-    let s = c .before .before .before .before .before in
-    let d = c .before .before .node-at .ensures in
+    let s = c .before .before .before .before .before .before in
+    let d = c .before .before .before .node-at .ensures in
     let h = s .pre .1 .0 .here in (
       name-inside _ _ _ d (s .pre .1 .0 .names) (omega (arith, the-node t s)),
-      rw (leaf-text _ _ _ _ _ d (omega (arith, the-node t s)) (c .before .if1 .taken) (h .rule) (h .sized) (h .stands)) (the-fit t s),
+      rw (leaf-text _ _ _ _ _ d (omega (arith, the-node t s)) (sym (c .before .before .is-leaf .ensures) ∙ c .before .if1 .taken) (h .rule) (h .sized) (h .stands)) (the-fit t s),
       s .pre .1 .2,
     )
 
@@ -84,34 +88,34 @@ put-rule-same-length t c = search needs
 
 put-rule-returns : (t : ℕ) → put-rule-lts.Need-returns (given t) (put-rule-at t) put-rule.Post put-rule-Inv-loop put-rule-μ-loop
 put-rule-returns t c = λ ρ e st.
-    let s = c .before .before .before .before .before .before .before .before in
-    rw (← leaf-text _ _ _ _ _ (c .before .before .before .before .before .node-at .ensures) (omega (arith, the-node t s)) (c .before .before .before .before .if1 .taken) ρ e st) (c .before .before .put-leaf .ensures)
+    let s = c .before .before .before .before .before .before .before .before .before in
+    rw (← leaf-text _ _ _ _ _ (c .before .before .before .before .before .before .node-at .ensures) (omega (arith, the-node t s)) (sym (c .before .before .before .before .before .is-leaf .ensures) ∙ c .before .before .before .before .if1 .taken) ρ e st) (c .before .before .put-leaf .ensures)
 
 put-rule-loop-holds : (t : ℕ) → put-rule-lts.Need-loop-holds (given t) (put-rule-at t) put-rule.Post put-rule-Inv-loop put-rule-μ-loop
-put-rule-loop-holds t c = (omega arith, walks-start _ _ _ _ _ (c .before .node-at .ensures) (omega (arith, the-node t (c .before .before .before .before))) (c .if1 .left) (put-none _ _))
+put-rule-loop-holds t c = (omega arith, walks-start _ _ _ _ _ (c .before .before .node-at .ensures) (omega (arith, the-node t (c .before .before .before .before .before))) (sym (c .before .is-leaf .ensures) ∙ c .if1 .left) (put-none _ _))
 
 put-rule-sub-node-at : (t : ℕ) → put-rule-lts.Need-sub-node-at (given t) (put-rule-at t) put-rule.Post put-rule-Inv-loop put-rule-μ-loop
 put-rule-sub-node-at t c = omega arith
 
 put-rule-node-at-requires-2 : (t : ℕ) → put-rule-lts.Need-node-at-requires-2 (given t) (put-rule-at t) put-rule.Post put-rule-Inv-loop put-rule-μ-loop
 put-rule-node-at-requires-2 t c κs =
-    let s = c .before .before .before .before .before .before in
+    let s = c .before .before .before .before .before .before .before in
     (s .pre .1 .0 .long, omega (arith, c .before .loop .inv .0, the-node t s))
 
 -- the child that a turn puts
 the-turn : (t : ℕ) (c : put-rule-lts.After-node-at2 (given t) (put-rule-at t) put-rule.Post put-rule-Inv-loop put-rule-μ-loop) →
-    let s = c .before .before .before .before .before .before .before in
-    let d = c .before .before .before .before .node-at .result in
+    let s = c .before .before .before .before .before .before .before .before in
+    let d = c .before .before .before .before .before .node-at .result in
     let i = c .before .before .loop in
     Turn (s .args .image .now) (s .args .n) (d .kind) (d .arg) (s .args .from) (s .args .size) (i .stop) (λ t. Put (s .args .text .now) (i .text) (i .to) (s .args .end) t) (s .pre .1 .0 .here .rule) (nodeOf (c .node-at2 .result))
 the-turn t c =
-    let h = c .before .before .before .before .before .before .before .pre .1 .0 .here in
+    let h = c .before .before .before .before .before .before .before .before .pre .1 .0 .here in
     let i = c .before .before .loop .inv in
     turn _ _ _ _ _ (i .1) (i .0) (c .before .loop-test .taken) (c .node-at2 .ensures) (h .rule) (h .sized) (h .stands)
 
 put-rule-put-back-requires : (t : ℕ) → put-rule-lts.Need-put-back-requires (given t) (put-rule-at t) put-rule.Post put-rule-Inv-loop put-rule-μ-loop
 put-rule-put-back-requires t c κs =
-    let s = c .before .before .before .before .before .before .before .before in
+    let s = c .before .before .before .before .before .before .before .before .before in
     let u = the-turn t (c .before) in
     (omega (arith, pieces-room (the-fit t s) u), put-start (s .pre .1 .2) (u .holds))
 
@@ -119,31 +123,34 @@ put-rule-sub-stop : (t : ℕ) → put-rule-lts.Need-sub-stop (given t) (put-rule
 put-rule-sub-stop t c = omega (arith, the-turn t (c .before .before .before .before) .fits)
 
 -- where its back begins there is room for its text, inside the buffer
-the-place : (t : ℕ) (c : put-rule-lts.After-struct-known (given t) (put-rule-at t) put-rule.Post put-rule-Inv-loop put-rule-μ-loop) →
-    let s = c .before .before .before .before .before .before .before .before .before .before .before .before .args in
+the-place : (t : ℕ) (c : put-rule-lts.After-is-leaf2 (given t) (put-rule-at t) put-rule.Post put-rule-Inv-loop put-rule-μ-loop) →
+    let s = c .before .before .before .before .before .before .before .before .before .before .before .before .before .args in
     let d = c .before .before .before .before .before .node-at2 .result in
     let p = c .before .before .before .put-back in
     ((q : Rule) → size q ≡ d .size → Stands q (cellAt (s .image .now) (s .n)) (c .before .before .before .before .before .before .before .loop .stop - d .size) → length (textOf q) ≤ p .result) × (p .result ≤ length (p .last .1 .1 .1 .0))
 the-place t c =
-    let s = c .before .before .before .before .before .before .before .before .before .before .before .before in
+    let s = c .before .before .before .before .before .before .before .before .before .before .before .before .before in
     let u = the-turn t (c .before .before .before .before .before) in
     let p = c .before .before .before .put-back in
     (child-room (the-fit t s) u (p .ensures .ends), omega (arith, p .ensures .ends, put-start (s .pre .1 .2) (u .holds)))
 
+put-rule-is-leaf-requires-2 : (t : ℕ) → put-rule-lts.Need-is-leaf-requires-2 (given t) (put-rule-at t) put-rule.Post put-rule-Inv-loop put-rule-μ-loop
+put-rule-is-leaf-requires-2 t c κs = search needs
+
 put-rule-put-leaf-requires-2 : (t : ℕ) → put-rule-lts.Need-put-leaf-requires-2 (given t) (put-rule-at t) put-rule.Post put-rule-Inv-loop put-rule-μ-loop
 put-rule-put-leaf-requires-2 t c κs =
-    let s = c .before .before .before .before .before .before .before .before .before .before .before .before .before .before in
+    let s = c .before .before .before .before .before .before .before .before .before .before .before .before .before .before .before in
     let d = c .before .before .before .before .before .before .before .node-at2 .ensures in
     let u = the-turn t (c .before .before .before .before .before .before .before) in
     let (room, long) = the-place t (c .before .before) in (
       name-inside _ _ _ d (s .pre .1 .0 .names) (omega (arith, c .before .before .before .before .before .before .before .before .before .loop .inv .0, the-node t s)),
-      rw (leaf-text _ _ _ _ _ d (omega (arith, u .some, u .fits)) (c .before .if2 .taken) (u .child) (u .sized) (u .stands)) (room (u .child) (u .sized) (u .stands)),
+      rw (leaf-text _ _ _ _ _ d (omega (arith, u .some, u .fits)) (sym (c .before .before .is-leaf2 .ensures) ∙ c .before .if2 .taken) (u .child) (u .sized) (u .stands)) (room (u .child) (u .sized) (u .stands)),
       long,
     )
 
 put-rule-put-rule-requires : (t : ℕ) → put-rule-lts.Need-put-rule-requires (given t) (put-rule-at t) put-rule.Post put-rule-Inv-loop put-rule-μ-loop
 put-rule-put-rule-requires t c κs =
-    let s = c .before .before .before .before .before .before .before .before .before .before .before .before .before .before in
+    let s = c .before .before .before .before .before .before .before .before .before .before .before .before .before .before .before in
     let i = s .pre .1 .0 in
     let u = the-turn t (c .before .before .before .before .before .before .before) in
     let pos = u .some in
@@ -160,17 +167,17 @@ put-rule-put-rule-requires t c κs =
 
 -- its text is put, by either way
 the-text : (t : ℕ) (c : put-rule-lts.Joined2 (given t) (put-rule-at t) put-rule.Post put-rule-Inv-loop put-rule-μ-loop) →
-    let s = c .before .before .before .before .before .before .before .before .before .before .before .before .before .args in
+    let s = c .before .before .before .before .before .before .before .before .before .before .before .before .before .before .args in
     let d = c .before .before .before .before .before .before .node-at2 .result in
     let p = c .before .before .before .before .put-back in
     (q : Rule) → size q ≡ d .size → Stands q (cellAt (s .image .now) (s .n)) (c .before .before .before .before .before .before .before .before .loop .stop - d .size) → Put (p .last .1 .1 .1 .0) (c .if2 .text) (c .if2 .to) (p .result) (textOf q)
 the-text t c q e st =
     let u = the-turn t (c .before .before .before .before .before .before) in
-    ⊎-elim (λ w. rw (w .5, w .6, ← leaf-text _ _ _ _ _ (c .before .before .before .before .before .before .node-at2 .ensures) (omega (arith, u .some, u .fits)) (w .0 .taken) q e st) (w .2 .ensures)) (λ w. rw (w .5, w .6) (w .2 .ensures q e st)) (c .if2 .came)
+    ⊎-elim (λ w. rw (w .5, w .6, ← leaf-text _ _ _ _ _ (c .before .before .before .before .before .before .node-at2 .ensures) (omega (arith, u .some, u .fits)) (sym (c .before .is-leaf2 .ensures) ∙ w .0 .taken) q e st) (w .2 .ensures)) (λ w. rw (w .5, w .6) (w .2 .ensures q e st)) (c .if2 .came)
 
 put-rule-put-front-requires : (t : ℕ) → put-rule-lts.Need-put-front-requires (given t) (put-rule-at t) put-rule.Post put-rule-Inv-loop put-rule-μ-loop
 put-rule-put-front-requires t c κs =
-    let s = c .before .before .before .before .before .before .before .before .before .before .before .before .before .before in
+    let s = c .before .before .before .before .before .before .before .before .before .before .before .before .before .before .before in
     let u = the-turn t (c .before .before .before .before .before .before .before) in
     let (room, long) = the-place t (c .before .before) in
     let p = c .before .before .before .before .before .put-back .ensures .ends in
@@ -183,20 +190,20 @@ put-rule-loop-less t c = let u = the-turn t (c .before .before .before .before .
 
 put-rule-loop-again : (t : ℕ) → put-rule-lts.Need-loop-again (given t) (put-rule-at t) put-rule.Post put-rule-Inv-loop put-rule-μ-loop
 put-rule-loop-again t c =
-    let long = c .before .before .before .before .before .before .before .before .before .before .before .before .before .before .before .before .before .pre .1 .2 in
+    let long = c .before .before .before .before .before .before .before .before .before .before .before .before .before .before .before .before .before .before .pre .1 .2 in
     let i = c .before .before .before .before .before .before .before .before .before .before .before .before .loop .inv in
     (omega (arith, i .0), walks-next _ _ _ _ _ (i .1) (i .0) (c .before .before .before .before .before .before .before .before .before .before .before .loop-test .taken) (c .before .before .before .before .before .before .before .before .before .before .node-at2 .ensures) (λ q v e st h. put-before long (put-before long (put-before long h (c .before .before .before .before .before .before .before .before .put-back .ensures)) (the-text t (c .before .before .before .before) q e st)) (c .before .before .put-front .ensures)))
 
 put-rule-put-opening-requires : (t : ℕ) → put-rule-lts.Need-put-opening-requires (given t) (put-rule-at t) put-rule.Post put-rule-Inv-loop put-rule-μ-loop
 put-rule-put-opening-requires t c κs =
-    let s = c .before .before .before .before .before .before .before in
+    let s = c .before .before .before .before .before .before .before .before in
     let h = s .pre .1 .0 .here in
     let (v, e, x) = walks-done _ _ _ _ _ (c .before .before .loop .inv .1) (c .before .loop-test .left) (h .rule) (h .sized) (h .stands) in
     (omega (arith, x .ends, the-fit t s, simp length-append at (ap length e)), put-start (s .pre .1 .2) x)
 
 put-rule-same-length-2 : (t : ℕ) → put-rule-lts.Need-same-length-2 (given t) (put-rule-at t) put-rule.Post put-rule-Inv-loop put-rule-μ-loop
 put-rule-same-length-2 t c =
-    let s = c .before .before .before .before .before .before .before .before .before .before in
+    let s = c .before .before .before .before .before .before .before .before .before .before .before in
     let h = s .pre .1 .0 .here in
     let (v, e, x) = walks-done _ _ _ _ _ (c .before .before .before .before .before .loop .inv .1) (c .before .before .before .before .loop-test .left) (h .rule) (h .sized) (h .stands) in
     omega (arith, put-length (s .pre .1 .2) x)
@@ -204,7 +211,7 @@ put-rule-same-length-2 t c =
 put-rule-returns-2 : (t : ℕ) → put-rule-lts.Need-returns-2 (given t) (put-rule-at t) put-rule.Post put-rule-Inv-loop put-rule-μ-loop
 put-rule-returns-2 t c = λ ρ e st.
     let (v, p, x) = walks-done _ _ _ _ _ (c .before .before .before .before .before .loop .inv .1) (c .before .before .before .before .loop-test .left) ρ e st in
-    rw p (put-before (c .before .before .before .before .before .before .before .before .before .before .pre .1 .2) x (c .before .before .put-opening .ensures))
+    rw p (put-before (c .before .before .before .before .before .before .before .before .before .before .before .pre .1 .2) x (c .before .before .put-opening .ensures))
 
 pub +put-rule-spec : {M : Type 1} → statement M
 +put-rule-spec = close μ-put-rule λ t. put-rule-lts.spec (given t)
@@ -215,6 +222,7 @@ pub +put-rule-spec : {M : Type 1} → statement M
     (put-rule-add-at t)
     (put-rule-sub-at t)
     (put-rule-node-at-requires t)
+    (put-rule-is-leaf-requires t)
     (put-rule-put-leaf-requires t)
     (put-rule-same-length t)
     (put-rule-returns t)
@@ -223,6 +231,7 @@ pub +put-rule-spec : {M : Type 1} → statement M
     (put-rule-node-at-requires-2 t)
     (put-rule-put-back-requires t)
     (put-rule-sub-stop t)
+    (put-rule-is-leaf-requires-2 t)
     (put-rule-put-leaf-requires-2 t)
     (put-rule-put-rule-requires t)
     (put-rule-put-front-requires t)

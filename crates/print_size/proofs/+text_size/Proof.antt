@@ -1,6 +1,6 @@
 -- `print_size::text_size` meets its contract: the walk over the children keeps the bytes of the text that was passed, and each child
 -- has fewer nodes than its parent. Assumes nothing.
-use mathlib.Core.Path.{_≡_}
+use mathlib.Core.Path.{_≡_, sym, _∙_}
 use Prim.Native.Nat.{ℕ, _+_, _-_, _≤_, _<_}
 use native.Mathlib.Omega.{arith}
 use lib.ListN.{length, length-append}
@@ -19,6 +19,7 @@ use Rattle.print_text.proofs.Laws.ChildrenLaws.{Walks, walks-start, Turn, turn,
 use Rattle.print_size.proofs.text_size.Reads as text-size
 use Rattle.print_size.proofs.text_size.Kinds as text-size-kinds
 use Rattle.print_size.proofs.+text_size.Lts-text_size as text-size-lts
+use Rattle.image.proofs.is_leaf.Reads as is-leaf-reads
 use Rattle.image.proofs.node_at.Reads as node-at-reads
 use Rattle.print_size.proofs.around_size.Reads as around-size-reads
 use Rattle.print_size.proofs.leaf_size.Reads as leaf-size-reads
@@ -38,7 +39,7 @@ text-size-below t =
 
 -- what the callees ask and give
 abbrev given : ℕ → text-size-lts.Claims
-given t = (node-at-reads.Asked, node-at-reads.Learnt, leaf-size-reads.Asked, leaf-size-reads.Learnt, opening-size-reads.Asked, opening-size-reads.Learnt, around-size-reads.Asked, around-size-reads.Learnt, text-size-below t, text-size.Post)
+given t = (node-at-reads.Asked, node-at-reads.Learnt, is-leaf-reads.Asked, is-leaf-reads.Learnt, leaf-size-reads.Asked, leaf-size-reads.Learnt, opening-size-reads.Asked, opening-size-reads.Learnt, around-size-reads.Asked, around-size-reads.Learnt, text-size-below t, text-size.Post)
 
 abbrev text-size-Inv-loop : text-size-lts.InvT-loop
 text-size-Inv-loop image n from size at kind arg end₀ total₀ end total =
@@ -62,38 +63,41 @@ text-size-sub-at t c = omega (arith, the-node t (c .before))
 text-size-node-at-requires : (t : ℕ) → text-size-lts.Need-node-at-requires (given t) (text-size-at t) text-size.Post text-size-Inv-loop text-size-μ-loop
 text-size-node-at-requires t c κs = (c .before .pre .1 .0 .long, omega (arith, the-node t (c .before)))
 
+text-size-is-leaf-requires : (t : ℕ) → text-size-lts.Need-is-leaf-requires (given t) (text-size-at t) text-size.Post text-size-Inv-loop text-size-μ-loop
+text-size-is-leaf-requires t c κs = search needs
+
 text-size-leaf-size-requires : (t : ℕ) → text-size-lts.Need-leaf-size-requires (given t) (text-size-at t) text-size.Post text-size-Inv-loop text-size-μ-loop
 text-size-leaf-size-requires t c κs =
-    let s = c .before .before .before in
-    name-inside _ _ _ (c .before .node-at .ensures) (s .pre .1 .0 .names) (omega (arith, the-node t s))
+    let s = c .before .before .before .before in
+    name-inside _ _ _ (c .before .before .node-at .ensures) (s .pre .1 .0 .names) (omega (arith, the-node t s))
 
 text-size-returns : (t : ℕ) → text-size-lts.Need-returns (given t) (text-size-at t) text-size.Post text-size-Inv-loop text-size-μ-loop
 text-size-returns t c = λ ρ e st.
-    let s = c .before .before .before .before in
-    rw (leaf-text _ _ _ _ _ (c .before .before .node-at .ensures) (omega (arith, the-node t s)) (c .before .if1 .taken) ρ e st) at (c .leaf-size .ensures)
+    let s = c .before .before .before .before .before in
+    rw (leaf-text _ _ _ _ _ (c .before .before .before .node-at .ensures) (omega (arith, the-node t s)) (sym (c .before .before .is-leaf .ensures) ∙ c .before .if1 .taken) ρ e st) at (c .leaf-size .ensures)
 
 text-size-opening-size-requires : (t : ℕ) → text-size-lts.Need-opening-size-requires (given t) (text-size-at t) text-size.Post text-size-Inv-loop text-size-μ-loop
 text-size-opening-size-requires t c κs = search needs
 
 text-size-loop-holds : (t : ℕ) → text-size-lts.Need-loop-holds (given t) (text-size-at t) text-size.Post text-size-Inv-loop text-size-μ-loop
-text-size-loop-holds t c = (omega arith, walks-start _ _ _ _ _ (c .before .before .node-at .ensures) (omega (arith, the-node t (c .before .before .before .before))) (c .before .if1 .left) (omega arith))
+text-size-loop-holds t c = (omega arith, walks-start _ _ _ _ _ (c .before .before .before .node-at .ensures) (omega (arith, the-node t (c .before .before .before .before .before))) (sym (c .before .before .is-leaf .ensures) ∙ c .before .if1 .left) (omega arith))
 
 text-size-sub-node-at : (t : ℕ) → text-size-lts.Need-sub-node-at (given t) (text-size-at t) text-size.Post text-size-Inv-loop text-size-μ-loop
 text-size-sub-node-at t c = omega arith
 
 text-size-node-at-requires-2 : (t : ℕ) → text-size-lts.Need-node-at-requires-2 (given t) (text-size-at t) text-size.Post text-size-Inv-loop text-size-μ-loop
 text-size-node-at-requires-2 t c κs =
-    let s = c .before .before .before .before .before .before in
+    let s = c .before .before .before .before .before .before .before in
     (s .pre .1 .0 .long, omega (arith, c .before .loop .inv .0, the-node t s))
 
 -- the child that a turn counts
 the-turn : (t : ℕ) (c : text-size-lts.After-node-at2 (given t) (text-size-at t) text-size.Post text-size-Inv-loop text-size-μ-loop) →
-    let s = c .before .before .before .before .before .before .before in
-    let d = c .before .before .before .before .before .node-at .result in
+    let s = c .before .before .before .before .before .before .before .before in
+    let d = c .before .before .before .before .before .before .node-at .result in
     let total = c .before .before .loop .total in
     Turn (s .args .image .now) (s .args .n) (d .kind) (d .arg) (s .args .from) (s .args .size) (c .before .before .loop .end) (λ t. total ≡ length (openingOf (d .kind) (d .arg)) + length t) (s .pre .1 .0 .here .rule) (nodeOf (c .node-at2 .result))
 the-turn t c =
-    let h = c .before .before .before .before .before .before .before .pre .1 .0 .here in
+    let h = c .before .before .before .before .before .before .before .before .pre .1 .0 .here in
     let i = c .before .before .loop .inv in
     turn _ _ _ _ _ (i .1) (i .0) (c .before .loop-test .taken) (c .node-at2 .ensures) (h .rule) (h .sized) (h .stands)
 
@@ -103,7 +107,7 @@ text-size-around-size-requires t c κs = search needs
 -- its bytes fit a number
 the-room : (t : ℕ) (c : text-size-lts.After-around-size (given t) (text-size-at t) text-size.Post text-size-Inv-loop text-size-μ-loop) → c .before .before .before .loop .total + c .around-size .result + length (textOf (the-turn t (c .before) .child)) ≤ 134_348_800
 the-room t c =
-    let s = c .before .before .before .before .before .before .before .before in
+    let s = c .before .before .before .before .before .before .before .before .before in
     let u = the-turn t (c .before) in
     let h = s .pre .1 .0 .here in
     omega (arith, turn-room _ _ u, u .holds, text-short _ _ (h .rule) _ (h .stands), h .sized, the-node t s, s .pre .1 .1)
@@ -121,7 +125,7 @@ the-less t c = let u = the-turn t (c .before) in omega (arith, u .some, u .fits)
 -- r is how many bytes its own text has
 abbrev Counted : (t : ℕ) (c : text-size-lts.After-around-size (given t) (text-size-at t) text-size.Post text-size-Inv-loop text-size-μ-loop) → ℕ → Type 0
 Counted t c r =
-    let s = c .before .before .before .before .before .before .before .before .args in
+    let s = c .before .before .before .before .before .before .before .before .before .args in
     let d = c .before .node-at2 .result in
     (q : Rule) → size q ≡ d .size → Stands q (cellAt (s .image .now) (s .n)) (c .before .before .before .loop .end - d .size) → r ≡ length (textOf q)
 
@@ -132,8 +136,8 @@ counted-room t c h =
     omega (arith, the-room t c, h (u .child) (u .sized) (u .stands))
 
 counted-next : (t : ℕ) (c : text-size-lts.After-around-size (given t) (text-size-at t) text-size.Post text-size-Inv-loop text-size-μ-loop) {r : ℕ} → Counted t c r →
-    let s = c .before .before .before .before .before .before .before .before .args in
-    let d = c .before .before .before .before .before .before .node-at .result in
+    let s = c .before .before .before .before .before .before .before .before .before .args in
+    let d = c .before .before .before .before .before .before .before .node-at .result in
     let i = c .before .before .before .loop in
     let end = i .end - c .before .node-at2 .result .size in
     (end ≤ s .from + s .size - 1) × Walks (s .image .now) (s .n) (d .kind) (d .arg) (s .from) (s .size) end (λ t. i .total + c .around-size .result + r ≡ length (openingOf (d .kind) (d .arg)) + length t)
@@ -141,15 +145,18 @@ counted-next t c h =
     let i = c .before .before .before .loop .inv in
     (omega (arith, i .0), walks-next _ _ _ _ _ (i .1) (i .0) (c .before .before .loop-test .taken) (c .before .node-at2 .ensures) (λ q v e st x. simp length-append (omega (arith, h q e st))))
 
+text-size-is-leaf-requires-2 : (t : ℕ) → text-size-lts.Need-is-leaf-requires-2 (given t) (text-size-at t) text-size.Post text-size-Inv-loop text-size-μ-loop
+text-size-is-leaf-requires-2 t c κs = search needs
+
 text-size-leaf-size-requires-2 : (t : ℕ) → text-size-lts.Need-leaf-size-requires-2 (given t) (text-size-at t) text-size.Post text-size-Inv-loop text-size-μ-loop
 text-size-leaf-size-requires-2 t c κs =
-    let s = c .before .before .before .before .before .before .before .before .before .before in
+    let s = c .before .before .before .before .before .before .before .before .before .before .before in
     name-inside _ _ _ (c .before .before .before .node-at2 .ensures) (s .pre .1 .0 .names) (omega (arith, c .before .before .before .before .before .loop .inv .0, the-node t s))
 
 leaf-counted : (t : ℕ) (c : text-size-lts.After-leaf-size2 (given t) (text-size-at t) text-size.Post text-size-Inv-loop text-size-μ-loop) → Counted t (c .before .before .before) (c .leaf-size2 .result)
 leaf-counted t c q e st =
     let u = the-turn t (c .before .before .before .before) in
-    rw (leaf-text _ _ _ _ _ (c .before .before .before .before .node-at2 .ensures) (omega (arith, u .some, u .fits)) (c .before .if2 .taken) q e st) at (c .leaf-size2 .ensures)
+    rw (leaf-text _ _ _ _ _ (c .before .before .before .before .node-at2 .ensures) (omega (arith, u .some, u .fits)) (sym (c .before .before .is-leaf2 .ensures) ∙ c .before .if2 .taken) q e st) at (c .leaf-size2 .ensures)
 
 text-size-add-total-2 : (t : ℕ) → text-size-lts.Need-add-total-2 (given t) (text-size-at t) text-size.Post text-size-Inv-loop text-size-μ-loop
 text-size-add-total-2 t c = omega (arith, counted-room t (c .before .before .before) (leaf-counted t c))
@@ -163,7 +170,7 @@ text-size-loop-again t c = counted-next t (c .before .before .before) (leaf-coun
 text-size-text-size-requires : (t : ℕ) → text-size-lts.Need-text-size-requires (given t) (text-size-at t) text-size.Post text-size-Inv-loop text-size-μ-loop
 text-size-text-size-requires t c κs =
     let i = c .before .before .before .before .before .loop in
-    let s = c .before .before .before .before .before .before .before .before .before .before in
+    let s = c .before .before .before .before .before .before .before .before .before .before .before in
     let n = the-node t s in
     let u = the-turn t (c .before .before .before) in
     let p = u .some in
@@ -195,6 +202,7 @@ pub +text-size-spec : {M : Type 1} → statement M
     (text-size-add-at t)
     (text-size-sub-at t)
     (text-size-node-at-requires t)
+    (text-size-is-leaf-requires t)
     (text-size-leaf-size-requires t)
     (text-size-returns t)
     (text-size-opening-size-requires t)
@@ -204,6 +212,7 @@ pub +text-size-spec : {M : Type 1} → statement M
     (text-size-around-size-requires t)
     (text-size-add-total t)
     (text-size-sub-end t)
+    (text-size-is-leaf-requires-2 t)
     (text-size-leaf-size-requires-2 t)
     (text-size-add-total-2 t)
     (text-size-loop-less t)

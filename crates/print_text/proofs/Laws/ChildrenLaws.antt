@@ -8,17 +8,18 @@ use lib.Dec.{eqb}
 use lib.ListN.{length, length-append}
 use borrow.Author.Tests.{eq-eqb, ne-eqb}
 use Rattle.rules.specs.Rule.{Join, Rule, leaf, node, Rules, nil, more, size, sizes}
+use Rattle.image.specs.Kinds.{isLeaf}
 use Rattle.image.specs.Encode.{joinKind}
 use Rattle.image.specs.Decode.{Node, nodeAt, meaning, cellAt}
 use Rattle.image.proofs.Laws.FitLaws.{cell-size}
 use Rattle.image.proofs.Laws.EncodeLaws.{size-pos}
 use Rattle.image.specs.Inner.Standing.{Stands, StandAll}
 use Rattle.image.proofs.Laws.StandingLaws.{root-size}
-use Rattle.evaluate.proofs.Laws.MeaningLaws.{no-leaf, no-join}
+use Rattle.image.proofs.Laws.KindLaws.{says, no-leaf, leaf-no-join}
 use Rattle.image.proofs.Laws.CellLaws.{cell-what}
 use Rattle.print_text.specs.Print.{childText, textOf, childrenText}
 use Rattle.print_text.specs.Inner.Pieces.{leafTextOf, leafIn, openingOf, frontOf, backOf}
-use Rattle.print_text.proofs.Laws.PiecesLaws.{rootOf, kindOf, root-what, says, kind-of, opening-of, child-of, child-short, opening-short, leaf-short}
+use Rattle.print_text.proofs.Laws.PiecesLaws.{rootOf, kindOf, root-what, kind-of, opening-of, child-of, child-short, opening-short, leaf-short}
 
 -- the text of the first children of a combinator, the last of whom is the combinator's last, or is not
 unfoldable pub upTo : Rules → Join → Bool → List ℕ
@@ -52,13 +53,13 @@ module _ (s : List ℕ) (n : ℕ) where
     root ρ e st = cell-what s n i read ∙ root-what ρ (cellAt s n) from i (omega arith) st
 
     -- a leaf has no children
-    pub leaf-text : d .kind < 3 → (ρ : Rule) → size ρ ≡ k → Stands ρ (cellAt s n) from → leafIn s n (d .kind) (d .arg) ≡ textOf ρ
+    pub leaf-text : isLeaf (d .kind) ≡ true → (ρ : Rule) → size ρ ≡ k → Stands ρ (cellAt s n) from → leafIn s n (d .kind) (d .arg) ≡ textOf ρ
     unfolding leafTextOf textOf
     leaf-text low (leaf l) e st = ap leafTextOf (root (leaf l) e st)
-    leaf-text low (node j rs r) e st = absurd (no-join s n (d .kind) (d .arg) (λ h i. omega arith) j (root (node j rs r) e st))
+    leaf-text low (node j rs r) e st = absurd (leaf-no-join s n (d .kind) (d .arg) low j (root (node j rs r) e st))
 
     -- no child is passed yet
-    pub walks-start : {P : List ℕ → Type 0} → 3 ≤ d .kind → P [] → Walks (d .kind) (d .arg) from k i P
+    pub walks-start : {P : List ℕ → Type 0} → isLeaf (d .kind) ≡ false → P [] → Walks (d .kind) (d .arg) from k i P
     unfolding size Stands textOf upTo
     walks-start high p (leaf l) e st = absurd (no-leaf s n (d .kind) (d .arg) high l (root (leaf l) e st))
     walks-start high p (node j rs r) e st =

@@ -1,17 +1,20 @@
 -- The pieces that nodes have by their kinds and arguments are those of the rule that stands there, and they are short. Assumes nothing.
 use mathlib.Core.Path.{_≡_, refl}
-use mathlib.Core.Bool.{Bool, true, false}
+use mathlib.Core.Bool.{Bool, true, false, cond}
 use mathlib.Core.List.{List, [], _++_}
-use Prim.Native.Nat.{ℕ, zero, suc, _+_, _*_, _/_, _%_, _≤_}
+use Prim.Native.Nat.{ℕ, zero, suc, _+_, _/_, _%_, _≤_}
 use native.Mathlib.Omega.{arith}
 use lib.Dec.{eqb}
 use lib.ListN.{length, drop, length-append, length-take}
 use Rattle.slices.specs.Text.{bytes}
 use Rattle.rules.specs.Rule.{named, olderThan, readable, Join, atLeast, all, any, Rule, leaf, node, size, sizes}
+use borrow.Author.Tests.{eqb-true, ne-eqb}
+use Rattle.image.specs.Kinds.{atLeastKind, allKind, anyKind, isLeaf}
+use Rattle.image.specs.Layout.{namesStart}
 use Rattle.image.specs.Encode.{leafKind, joinKind, joinArg}
 use Rattle.image.specs.Decode.{Meaning, aLeaf, aJoin, nothing, meaning, Cell}
 use Rattle.image.specs.Inner.Standing.{Stands}
-use Rattle.evaluate.proofs.Laws.MeaningLaws.{NoLeaf, no-leaf}
+use Rattle.image.proofs.Laws.KindLaws.{above-leaf, says, NoLeaf, no-leaf}
 use Rattle.print_text.specs.Print.{opening, behind, isAny, bracketed, bracket, childText}
 use Rattle.print_text.specs.Inner.Pieces.{leafTextOf, leafIn, openingOf, behindOf, bracketedOf, frontOf, backOf}
 use Rattle.decimal.proofs.Laws.DigitsLaws.{digits-short}
@@ -36,24 +39,6 @@ root-what (node j rs r) f s i e st =
     let p : i ≡ s + sizes rs + size r = omega arith in
     rw p (st .2)
 
--- what a node's meaning says of its kind and argument
-abbrev pub Says : ℕ → ℕ → Meaning → Type 0
-Says k a (aLeaf l) = k ≡ leafKind l
-Says k a (aJoin j) = (k ≡ joinKind j) × (a ≡ joinArg j)
-Says k a nothing = Unit {0}
-
-pub says : (s : List ℕ) (n k a : ℕ) → Says k a (meaning s n k a)
-unfolding meaning
-says s n zero a = refl
-says s n (suc zero) a = refl
-says s n (suc (suc zero)) a = refl
-says s n (suc (suc (suc zero))) a = (refl, refl)
-says s n (suc (suc (suc (suc zero)))) zero = (refl, refl)
-says s n (suc (suc (suc (suc zero)))) (suc a) = tt
-says s n (suc (suc (suc (suc (suc zero))))) zero = (refl, refl)
-says s n (suc (suc (suc (suc (suc zero))))) (suc a) = tt
-says s n (suc (suc (suc (suc (suc (suc k)))))) a = tt
-
 -- a node that is a rule's root has the rule's kind
 pub kind-of : (s : List ℕ) (n k a : ℕ) (r : Rule) → meaning s n k a ≡ rootOf r → k ≡ kindOf r
 kind-of s n k a (leaf l) e = rw e at (says s n k a)
@@ -74,7 +59,7 @@ behind-of all last = refl
 behind-of any last = refl
 
 -- a bracket, as an any under an all has it
-any-of : (q : Rule) → eqb (kindOf q) 5 ≡ isAny q
+any-of : (q : Rule) → eqb (kindOf q) anyKind ≡ isAny q
 any-of (leaf (named w)) = refl
 any-of (leaf (olderThan d)) = refl
 any-of (leaf (readable k)) = refl
@@ -100,40 +85,44 @@ leaf-none (aLeaf l) h = absurd (h l refl)
 leaf-none (aJoin j) h = refl
 leaf-none nothing h = refl
 
-pub no-leaf-text : (s : List ℕ) (n k a : ℕ) → 3 ≤ k → leafIn s n k a ≡ []
+pub no-leaf-text : (s : List ℕ) (n k a : ℕ) → isLeaf k ≡ false → leafIn s n k a ≡ []
 no-leaf-text s n k a h = leaf-none (meaning s n k a) (no-leaf s n k a h)
 
-pub no-opening : (k a : ℕ) → (k ≡ 3 → ⊥) → openingOf k a ≡ []
+pub no-opening : (k a : ℕ) → (k ≡ atLeastKind → ⊥) → openingOf k a ≡ []
 unfolding openingOf
-no-opening zero a h = refl
-no-opening (suc zero) a h = refl
-no-opening (suc (suc zero)) a h = refl
-no-opening (suc (suc (suc zero))) a h = absurd (h refl)
-no-opening (suc (suc (suc (suc k)))) a h = refl
+no-opening k a h = rw (ne-eqb k atLeastKind h)
 
-pub none-behind : (k : ℕ) {last : Bool} → (k ≡ 3 → ⊥) → (4 ≤ k → k ≤ 5 → last ≡ true) → behindOf k last ≡ []
-unfolding behindOf
-none-behind zero g h = refl
-none-behind (suc zero) g h = refl
-none-behind (suc (suc zero)) g h = refl
-none-behind (suc (suc (suc zero))) g h = absurd (g refl)
-none-behind (suc (suc (suc (suc zero)))) g h = rw (h (omega arith) (omega arith))
-none-behind (suc (suc (suc (suc (suc zero))))) g h = rw (h (omega arith) (omega arith))
-none-behind (suc (suc (suc (suc (suc (suc k)))))) g h = refl
+pub none-behind : (k : ℕ) {last : Bool} → (k ≡ atLeastKind → ⊥) → (allKind ≤ k → k ≤ anyKind → last ≡ true) → behindOf k last ≡ []
+unfolding behindOf behind
+none-behind k {last} g h = rw (ne-eqb k atLeastKind g) (by-all (eqb k allKind) refl)
+  where
+    by-any : (b : Bool) → eqb k anyKind ≡ b → cond b (behind any last) [] ≡ []
+    by-any true e = let p = eqb-true k anyKind e in rw (h (omega arith) (omega arith))
+    by-any false e = refl
+
+    by-all : (b : Bool) → eqb k allKind ≡ b → cond b (behind all last) (cond (eqb k anyKind) (behind any last) []) ≡ []
+    by-all true e = let p = eqb-true k allKind e in rw (h (omega arith) (omega arith))
+    by-all false e = by-any (eqb k anyKind) refl
 
 -- ---- how long they are at most: what stands behind a child, what surrounds it, what stands before the children, and a leaf
+sign-short : (j : Join) (last : Bool) → length (behind j last) ≤ 4
+unfolding behind
+sign-short (atLeast k) true = omega arith
+sign-short (atLeast k) false = omega arith
+sign-short all true = omega arith
+sign-short all false = omega arith
+sign-short any true = omega arith
+sign-short any false = omega arith
+
 pub behind-short : (k : ℕ) (last : Bool) → length (behindOf k last) ≤ 4
 unfolding behindOf
-behind-short zero last = omega arith
-behind-short (suc zero) last = omega arith
-behind-short (suc (suc zero)) last = omega arith
-behind-short (suc (suc (suc zero))) true = omega arith
-behind-short (suc (suc (suc zero))) false = omega arith
-behind-short (suc (suc (suc (suc zero)))) true = omega arith
-behind-short (suc (suc (suc (suc zero)))) false = omega arith
-behind-short (suc (suc (suc (suc (suc zero))))) true = omega arith
-behind-short (suc (suc (suc (suc (suc zero))))) false = omega arith
-behind-short (suc (suc (suc (suc (suc (suc k)))))) last = omega arith
+behind-short k last = by (eqb k atLeastKind) (eqb k allKind) (eqb k anyKind)
+  where
+    by : (a b c : Bool) → length (cond a (behind (atLeast 0) last) (cond b (behind all last) (cond c (behind any last) []))) ≤ 4
+    by true b c = sign-short (atLeast 0) last
+    by false true c = sign-short all last
+    by false false true = sign-short any last
+    by false false false = omega arith
 
 bracket-short : (b : Bool) (sign : List ℕ) → length (bracket b sign) ≤ length sign
 unfolding bracket
@@ -155,7 +144,7 @@ opening-short any = omega arith
 
 pub leaf-short : (s : List ℕ) (n k a : ℕ) → length (leafIn s n k a) ≤ 65_535
 unfolding meaning leafTextOf
-leaf-short s n zero a = omega (arith, length-take (a % 65536) (drop (4 + 12 * n + a / 65536) s))
+leaf-short s n zero a = omega (arith, length-take (a % 65536) (drop (namesStart n + a / 65536) s))
 leaf-short s n (suc zero) a = simp length-append (omega (arith, duration-short a))
 leaf-short s n (suc (suc zero)) a = simp length-append (omega (arith, digits-short a))
-leaf-short s n (suc (suc (suc k))) a = rw (no-leaf-text s n (suc (suc (suc k))) a (omega arith)) (omega arith)
+leaf-short s n (suc (suc (suc k))) a = rw (no-leaf-text s n (suc (suc (suc k))) a (above-leaf (suc (suc (suc k))) (omega arith))) (omega arith)

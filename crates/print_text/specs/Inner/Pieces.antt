@@ -1,10 +1,11 @@
 -- The pieces of a rule's text by the kinds and arguments of nodes: what the inner functions promise each other. Assumes nothing.
-use Prim.Native.Nat.{ℕ, zero, suc}
-use mathlib.Core.Bool.{Bool, _&&_}
+use Prim.Native.Nat.{ℕ}
+use mathlib.Core.Bool.{Bool, cond, _&&_}
 use mathlib.Core.List.{List, [], _++_}
 use lib.Dec.{eqb}
 use Rattle.slices.specs.Text.{bytes}
 use Rattle.rules.specs.Rule.{atLeast, all, any}
+use Rattle.image.specs.Kinds.{atLeastKind, allKind, anyKind}
 use Rattle.image.specs.Decode.{Meaning, aLeaf, aJoin, nothing, meaning}
 use Rattle.print_text.specs.Print.{leafText, opening, behind, bracket}
 
@@ -22,26 +23,19 @@ leafIn s n kind arg = leafTextOf (meaning s n kind arg)
 -- what stands before the children of a combinator of this kind and argument
 unfoldable pub openingOf : ℕ → ℕ → List ℕ
 unfolding opening
-openingOf zero k = []
-openingOf (suc zero) k = []
-openingOf (suc (suc zero)) k = []
-openingOf (suc (suc (suc zero))) k = opening (atLeast k)
-openingOf (suc (suc (suc (suc i)))) k = []
+openingOf kind arg = cond (eqb kind atLeastKind) (opening (atLeast arg)) []
 
 -- what stands behind a child of a combinator of this kind
 unfoldable pub behindOf : ℕ → Bool → List ℕ
 unfolding behind
-behindOf zero last = []
-behindOf (suc zero) last = []
-behindOf (suc (suc zero)) last = []
-behindOf (suc (suc (suc zero))) last = behind (atLeast 0) last
-behindOf (suc (suc (suc (suc zero)))) last = behind all last
-behindOf (suc (suc (suc (suc (suc zero))))) last = behind any last
-behindOf (suc (suc (suc (suc (suc (suc i)))))) last = []
+behindOf kind last =
+    cond (eqb kind atLeastKind) (behind (atLeast 0) last)
+    (cond (eqb kind allKind) (behind all last)
+    (cond (eqb kind anyKind) (behind any last) []))
 
 -- an any under an all, by their kinds
 unfoldable pub bracketedOf : ℕ → ℕ → Bool
-bracketedOf kind child = eqb kind 4 && eqb child 5
+bracketedOf kind child = eqb kind allKind && eqb child anyKind
 
 -- what stands before a child's own text, and what stands behind it
 unfoldable pub frontOf : ℕ → ℕ → List ℕ

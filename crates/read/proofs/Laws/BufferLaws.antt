@@ -8,6 +8,7 @@ use lib.ListN.{length, take, drop}
 use Rattle.refusals.specs.Refusals.{refusal, shortBuffer}
 use Rattle.slices.specs.Written.{written}
 use Rattle.slices.proofs.Laws.WrittenLaws.{written-front}
+use Rattle.image.specs.Layout.{namesStart}
 use Rattle.image.specs.Encode.{tags, args, names, imageOf, encode}
 use Rattle.image.proofs.Laws.EncodeLaws.{length-encode}
 use Rattle.grammar.specs.Reading.{Read, readOf}
@@ -32,7 +33,7 @@ module _ {x : Read} {s : List ℕ} {a : Arrays} {n m : ℕ} (w : Whole x s a n m
   unfolding encode
   image-is = rw (w .tags, w .args, w .names, w .nodes)
 
-  pub says-rule : (i : List ℕ) {i′ : List ℕ} {len : ℕ} → len ≡ 4 + 12 * n + m → i′ ≡ written i 0 (imageOf n (take n (a .tags)) (take n (a .args)) (take m (a .names))) → outcome (Written len) i′ ≡ readingOf x i
+  pub says-rule : (i : List ℕ) {i′ : List ℕ} {len : ℕ} → len ≡ namesStart n + m → i′ ≡ written i 0 (imageOf n (take n (a .tags)) (take n (a .args)) (take m (a .names))) → outcome (Written len) i′ ≡ readingOf x i
   says-rule i {i′} {len} q e =
       let r = w .tree in
       let long : len ≡ length (encode r) = omega (arith, length-encode r, w .nodes, w .bytes) in

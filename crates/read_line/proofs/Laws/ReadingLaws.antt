@@ -7,8 +7,9 @@ use lib.ListN.{length}
 use Rattle.slices.specs.Text.{bytes}
 use Rattle.lines.specs.Lines.{numbersLine}
 use Rattle.rules.specs.Rule.{size}
-use Rattle.little_endian.specs.Bytes.{leBytes, leAt}
+use Rattle.little_endian.specs.Bytes.{leBytes}
 use Rattle.little_endian.proofs.Laws.BytesLaws.{Has, has-front, has-back, number-at}
+use Rattle.image.specs.Layout.{nodeCountIn, nameByteCountIn}
 use Rattle.image.specs.Encode.{names, imageOf, encode}
 use Rattle.grammar.specs.Reading.{readOf}
 use Rattle.grammar.proofs.Laws.FitsLaws.{read-fits}
@@ -17,7 +18,7 @@ use Rattle.read.proofs.Laws.FoundLaws.{Found}
 
 module _ {text image : List ℕ} {len : ℕ} (g : Found text len image) where
   -- its two numbers are the line's
-  pub read-numbers : {n m : ℕ} → n ≡ leAt image 0 2 → m ≡ leAt image 2 2 → readLine (readOf text) ≡ numbersLine (bytes "ok ") n m
+  pub read-numbers : {n m : ℕ} → n ≡ nodeCountIn image → m ≡ nameByteCountIn image → readLine (readOf text) ≡ numbersLine (bytes "ok ") n m
   unfolding Has encode imageOf
   read-numbers p q =
       let r = g .read in

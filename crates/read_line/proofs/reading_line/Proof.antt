@@ -18,17 +18,17 @@ enum-told c = search needs
 slice-aggregate-append-numbers : tie.Need-slice-aggregate-append-numbers
 slice-aggregate-append-numbers c = search needs
 
-slice-aggregate-le2 : tie.Need-slice-aggregate-le2
-slice-aggregate-le2 c = search needs
+slice-aggregate-node-count : tie.Need-slice-aggregate-node-count
+slice-aggregate-node-count c = search needs
 
-le2-requires : tie.Need-le2-requires
-le2-requires c κs = search needs
+node-count-requires : tie.Need-node-count-requires
+node-count-requires c κs = search needs
 
-slice-aggregate-le2-2 : tie.Need-slice-aggregate-le2-2
-slice-aggregate-le2-2 c = search needs
+slice-aggregate-name-byte-count : tie.Need-slice-aggregate-name-byte-count
+slice-aggregate-name-byte-count c = search needs
 
-le2-requires-2 : tie.Need-le2-requires-2
-le2-requires-2 c κs = search needs
+name-byte-count-requires : tie.Need-name-byte-count-requires
+name-byte-count-requires c κs = search needs
 
 append-numbers-requires : tie.Need-append-numbers-requires
 append-numbers-requires c κs = search needs
@@ -45,7 +45,7 @@ same-length c = search needs
 returns : tie.Need-returns
 returns c =
     let g = read-rule _ _ (search needs) (c .before .before .before .before .before .before .before .before .before .before .before .before .read .ensures) (c .before .before .before .before .before .before .before .before .before .enum-told .given .1) in
-    rw (read-numbers g (c .before .before .before .before .before .le2 .ensures .0) (c .before .before .before .le22 .ensures .0)) (c .before .before .append-numbers .ensures)
+    rw (read-numbers g (c .before .before .before .before .before .node-count .ensures .0) (c .before .before .before .name-byte-count .ensures .0)) (c .before .before .append-numbers .ensures)
 
 same-length-2 : tie.Need-same-length-2
 same-length-2 c = search needs
@@ -61,10 +61,10 @@ reading-line-spec =
     read-requires
     enum-told
     slice-aggregate-append-numbers
-    slice-aggregate-le2
-    le2-requires
-    slice-aggregate-le2-2
-    le2-requires-2
+    slice-aggregate-node-count
+    node-count-requires
+    slice-aggregate-name-byte-count
+    name-byte-count-requires
     append-numbers-requires
     enum-known-f
     append-refusal-requires

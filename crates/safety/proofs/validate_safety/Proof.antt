@@ -24,18 +24,18 @@ refuse-requires c κs = search needs
 returns : tie.Need-returns
 returns c = with-checked _ _ (c .refuse .ensures ∙ refused-16 _ _ (sym (c .before .before .is-image .ensures) ∙ not-true _ (c .before .if1 .taken)))
 
-le2-requires : tie.Need-le2-requires
-le2-requires c κs = omega (arith, image-inside _ (the-image c) refl .long)
+node-count-requires : tie.Need-node-count-requires
+node-count-requires c κs = omega (arith, image-inside _ (the-image c) refl .long)
 
 check-rule-requires : tie.Need-check-rule-requires
 check-rule-requires c κs =
     let i = the-image (c .before) in
-    (image-inside _ i (c .le2 .ensures .0), image-few _ i (c .le2 .ensures .0))
+    (image-inside _ i (c .node-count .ensures .0), image-few _ i (c .node-count .ensures .0))
 
 returns-2 : tie.Need-returns-2
-returns-2 c = with-checked _ _ (checks-image _ (the-image (c .before .before)) (c .before .le2 .ensures .0) _ (c .check-rule .ensures))
+returns-2 c = with-checked _ _ (checks-image _ (the-image (c .before .before)) (c .before .node-count .ensures .0) _ (c .check-rule .ensures))
 
 pub validate-safety-spec : {M : Type 1} → statement M
 validate-safety-spec =
     tie.close
-    (tie.spec is-image-requires refuse-requires returns le2-requires check-rule-requires returns-2)
+    (tie.spec is-image-requires refuse-requires returns node-count-requires check-rule-requires returns-2)

@@ -10,7 +10,6 @@ use borrow.Author.Tests.{leb-true, eqb-true}
 use lib.Dec.{eqb, leb}
 use lib.ListN.{length, take, drop, length-take, length-drop}
 use lib.Seq.{drop-nil, take-add, take-length}
-use Rattle.little_endian.specs.Bytes.{AllBytes}
 use Rattle.little_endian.proofs.Laws.BytesLaws.{bytes-at}
 use Rattle.slices.specs.Text.{allAscii, AllBytes}
 use Rattle.slices.proofs.Laws.AsciiLaws.{take-ascii, drop-ascii}

@@ -7,7 +7,6 @@ use native.Mathlib.Omega.{arith}
 use lib.ListN.{length, length-map}
 use Rattle.slices.specs.Text.{allAscii, AllBytes}
 use Rattle.store_table.specs.Stores.{entriesIn, isList, readWrite, allNames}
-use Rattle.little_endian.specs.Bytes.{AllBytes}
 use Rattle.store_table.proofs.Laws.TableBytesLaws.{AllFit, table-of}
 use Rattle.store_table.specs.Inner.ListBytes.{plain, listOf}
 

@@ -10,7 +10,7 @@ use lib.ListN.{length, take, drop, length-append}
 use lib.Seq.{take-append-seam}
 use Rattle.refusals.specs.Refusals.{refusal, badImage, badStoreTable, twinName, unknownStore, unconfirmed, archiveOnly}
 use Rattle.rules.specs.Rule.{Rule, size}
-use Rattle.little_endian.specs.Bytes.{leAt}
+use Rattle.image.specs.Layout.{nodeCountIn}
 use Rattle.image.specs.Encode.{encode}
 use Rattle.image.specs.Decode.{isSome, cellAt, decode}
 use Rattle.image.proofs.Laws.FitLaws.{isSome-true, isSome-false}
@@ -99,7 +99,7 @@ module _ (i : List ℕ) where
   refused-16 s e = rw (isSome-false (decode i) e)
 
   -- n is what its first two bytes say
-  module _ {n : ℕ} (image : isSome (decode i) ≡ true) (p : n ≡ leAt i 0 2) where
+  module _ {n : ℕ} (image : isSome (decode i) ≡ true) (p : n ≡ nodeCountIn i) where
     -- v is the verdict on whatever rule has all n nodes
     pub checks-image : {v : Verdict} (s : List ℕ) → ((r : Rule) → size r ≡ n → Stands r (cellAt i n) 0 → v ≡ checkRule r s) → v ≡ checkOf i s
     unfolding checkOf

@@ -3,13 +3,15 @@ use mathlib.Core.Path.{_≡_, refl, sym, ap, _∙_}
 use mathlib.Core.Bool.{Bool, true, false, cond, true≢false}
 use mathlib.Core.List.{List, [], List·Memᴰ}
 use mathlib.Core.Logic.{⊎-elim}
-use Prim.Native.Nat.{ℕ, _+_, _*_, _/_, _%_, _<_}
+use Prim.Native.Nat.{ℕ, _+_, _<_}
 use native.Mathlib.Omega.{arith}
 use borrow.Author.Tests.{leb-true, eqb-true, eq-eqb}
 use lib.Dec.{eqb, leb}
-use lib.ListN.{length, take, drop, set}
+use lib.ListN.{length, set}
 use Rattle.slices.proofs.Laws.WrittenLaws.{after-set}
 use Rattle.rules.specs.Rule.{Leaf}
+use Rattle.image.specs.Kinds.{namedKind, olderThanKind, readableKind}
+use Rattle.image.specs.Layout.{nameOf}
 use Rattle.image.specs.Decode.{aLeaf, meaning, cellAt}
 use Rattle.store_table.specs.Names.{has}
 use Rattle.store_table.specs.Stores.{Entry, readOnly, writeOnly, isReadable, writeOnlyNames, readyCount, twinOf}
@@ -65,17 +67,17 @@ module _ (es : List Entry) (lone : twinOf es ≡ Lone) where
 
   -- ---- the grade of a leaf, by its kind
   module _ (s : List ℕ) (n : ℕ) {k : ℕ} (a : ℕ) (l : Leaf) (e : meaning s n k a ≡ aLeaf l) where
-    pub older-graded : {b : Bool} → k ≡ 1 → leb a oldest ≡ b → Graded l es (cond b 2 0)
+    pub older-graded : {b : Bool} → k ≡ olderThanKind → leb a oldest ≡ b → Graded l es (cond b 2 0)
     older-graded {b} h p = same-graded b (sym p ∙ says-older s n a (worldOf es oldest []) l e h) (sym p ∙ says-older s n a (worldOf es oldest (writeOnlyNames es)) l e h)
 
-    pub readable-graded : {b : Bool} → k ≡ 2 → leb a 0 ≡ b → Graded l es (cond b 2 0)
+    pub readable-graded : {b : Bool} → k ≡ readableKind → leb a 0 ≡ b → Graded l es (cond b 2 0)
     readable-graded {b} h p = same-graded b (says (worldOf es oldest []) ready-bare) (says (worldOf es oldest (writeOnlyNames es)) ready-archived)
       where
         says : (v : World) → v .ready ≡ 0 → b ≡ leafSays l v
         says v q = sym p ∙ ap (leb a) (sym q) ∙ says-readable s n a v l e h
 
     -- a name, which is this store's
-    pub name-graded : {w : List ℕ} (x : Entry) → k ≡ 0 → w ≡ take (a % 65536) (drop (4 + 12 * n + a / 65536) s) → List·Memᴰ x es → w ≡ x .name → Graded l es (nameGrade (x .mode))
+    pub name-graded : {w : List ℕ} (x : Entry) → k ≡ namedKind → w ≡ nameOf s n a → List·Memᴰ x es → w ≡ x .name → Graded l es (nameGrade (x .mode))
     name-graded {w} x h named-as m p = by (eqb (x .mode) writeOnly) (says-named s n a (worldOf es oldest (writeOnlyNames es)) l e h named-as (rw p (sym (write-only-has x m))))
       where
         keeps : false ≡ leafSays l (worldOf es oldest [])

@@ -2,16 +2,18 @@
 use mathlib.Core.Path.{_≡_, refl, sym, _∙_}
 use mathlib.Core.Bool.{Bool, not, cond}
 use mathlib.Core.List.{List}
-use Prim.Native.Nat.{ℕ, zero, suc, _+_, _-_, _*_, _/_, _%_, _≤_, _<_}
+use Prim.Native.Nat.{ℕ, zero, suc, _+_, _-_, _≤_, _<_}
 use native.Mathlib.Nat.{add-zero, add-suc, add-assoc}
 use native.Mathlib.Numerals.{add-one}
 use native.Mathlib.Omega.{arith}
-use lib.ListN.{take, drop}
-use Rattle.rules.specs.Rule.{Join, all, any, Rule, leaf, node, Rules, nil, more, size, sizes}
-use Rattle.image.specs.Decode.{Node, nodeAt, Meaning, aLeaf, aJoin, nothing, argument0, meaning, Cell, cellAt}
+use Rattle.rules.specs.Rule.{named, olderThan, readable, Rule, leaf, node, Rules, nil, more, size, sizes}
+use Rattle.image.specs.Kinds.{namedKind}
+use Rattle.image.specs.Layout.{nameOf}
+use Rattle.image.specs.Decode.{Node, nodeAt, Meaning, aLeaf, aJoin, nothing, meaning, Cell, cellAt}
 use Rattle.image.specs.Inner.Standing.{Stands, StandAll}
 use Rattle.store_table.specs.Names.{has}
 use Rattle.store_table.specs.Stores.{Entry, allNames}
+use Rattle.image.proofs.Laws.KindLaws.{no-name}
 use Rattle.image.proofs.Laws.CellLaws.{cell-what}
 use Rattle.verdict.specs.Check.{isUnknown, first, unknownIn, unknownAll}
 use Rattle.verdict.specs.declared.Unknown.{Unknown}
@@ -82,29 +84,22 @@ module _ (stores : List Entry) (f : ℕ → Cell) where
           let p : i ≡ 0 + size r = omega arith in
           sym none ∙ rw p (cells-rule r 0 st)
 
--- ---- a cell whose kind is not 0 is no name
-argument-known : (stores : List Entry) (a : ℕ) (j : Join) (i : ℕ) → unknownCell stores (argument0 a j) i ≡ No
-unfolding unknownCell
-argument-known stores zero j i = refl
-argument-known stores (suc a) j i = refl
-
-meaning-known : (stores : List Entry) (s : List ℕ) (n k a i : ℕ) → (k ≡ 0 → ⊥) → unknownCell stores (meaning s n k a) i ≡ No
-unfolding meaning unknownCell isUnknown
-meaning-known stores s n zero a i h = absurd (h refl)
-meaning-known stores s n (suc zero) a i h = refl
-meaning-known stores s n (suc (suc zero)) a i h = refl
-meaning-known stores s n (suc (suc (suc zero))) a i h = refl
-meaning-known stores s n (suc (suc (suc (suc zero)))) a i h = argument-known stores a all i
-meaning-known stores s n (suc (suc (suc (suc (suc zero))))) a i h = argument-known stores a any i
-meaning-known stores s n (suc (suc (suc (suc (suc (suc k)))))) a i h = refl
+-- ---- a cell that is no name
+not-named : (stores : List Entry) (m : Meaning) (i : ℕ) → ((w : List ℕ) → m ≡ aLeaf (named w) → ⊥) → unknownCell stores m i ≡ No
+unfolding unknownCell isUnknown
+not-named stores (aLeaf (named w)) i h = absurd (h w refl)
+not-named stores (aLeaf (olderThan d)) i h = refl
+not-named stores (aLeaf (readable k)) i h = refl
+not-named stores (aJoin j) i h = refl
+not-named stores nothing i h = refl
 
 -- ---- what a node that was read says of its cell
 module _ (stores : List Entry) (s : List ℕ) (n i : ℕ) {d : Node} (e : d ≡ nodeAt s n i) where
   -- it is no name
-  pub other-known : (d .kind ≡ 0 → ⊥) → unknownCell stores (cellAt s n i .what) i ≡ No
-  other-known h = rw (← cell-what s n i e) (meaning-known stores s n (d .kind) (d .arg) i h)
+  pub other-known : (d .kind ≡ namedKind → ⊥) → unknownCell stores (cellAt s n i .what) i ≡ No
+  other-known h = rw (← cell-what s n i e) (not-named stores (meaning s n (d .kind) (d .arg)) i (no-name s n (d .kind) (d .arg) h))
 
   -- it is a name, and b says whether it is a store's
-  pub name-says : {b : Bool} {w : List ℕ} → d .kind ≡ 0 → w ≡ take (d .arg % 65536) (drop (4 + 12 * n + d .arg / 65536) s) → has w (allNames stores) ≡ b → unknownCell stores (cellAt s n i .what) i ≡ cond (not b) (At i) No
+  pub name-says : {b : Bool} {w : List ℕ} → d .kind ≡ namedKind → w ≡ nameOf s n (d .arg) → has w (allNames stores) ≡ b → unknownCell stores (cellAt s n i .what) i ≡ cond (not b) (At i) No
   unfolding meaning unknownCell isUnknown
   name-says k named-as says = rw (← cell-what s n i e, k, ← named-as, says)

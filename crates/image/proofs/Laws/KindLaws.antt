@@ -1,0 +1,79 @@
+-- Which kinds are leaves, and what a node's meaning says of its kind. Assumes nothing.
+use mathlib.Core.Path.{_≡_, refl, sym, ap, _∙_}
+use mathlib.Core.Bool.{true, false, true≢false}
+use mathlib.Core.List.{List}
+use Prim.Native.Nat.{ℕ, zero, suc, _≤_, _<_}
+use native.Mathlib.Omega.{arith}
+use borrow.Author.Tests.{leb-true, leb-false, lt-leb}
+use Rattle.rules.specs.Rule.{Leaf, named, olderThan, readable, Join, atLeast, all, any}
+use Rattle.image.specs.Kinds.{namedKind, readableKind, atLeastKind, anyKind, isLeaf}
+use Rattle.image.specs.Encode.{leafKind, joinKind, joinArg}
+use Rattle.image.specs.Decode.{Meaning, aLeaf, aJoin, nothing, meaning}
+
+-- ---- kinds of leaves, and others
+pub leaf-low : (k : ℕ) → isLeaf k ≡ true → k ≤ readableKind
+unfolding isLeaf
+leaf-low k e = leb-true k readableKind e
+
+pub leaf-high : (k : ℕ) → isLeaf k ≡ false → readableKind < k
+unfolding isLeaf
+leaf-high k e = leb-false k readableKind e
+
+pub above-leaf : (k : ℕ) → readableKind < k → isLeaf k ≡ false
+unfolding isLeaf
+above-leaf k h = lt-leb k readableKind h
+
+leaf-is : (l : Leaf) → isLeaf (leafKind l) ≡ true
+unfolding isLeaf
+leaf-is (named w) = refl
+leaf-is (olderThan d) = refl
+leaf-is (readable k) = refl
+
+join-among : (j : Join) → (atLeastKind ≤ joinKind j) × (joinKind j ≤ anyKind)
+join-among (atLeast k) = (omega arith, omega arith)
+join-among all = (omega arith, omega arith)
+join-among any = (omega arith, omega arith)
+
+-- ---- what a node's meaning says of its kind and argument
+abbrev pub Says : ℕ → ℕ → Meaning → Type 0
+Says k a (aLeaf l) = k ≡ leafKind l
+Says k a (aJoin j) = (k ≡ joinKind j) × (a ≡ joinArg j)
+Says k a nothing = Unit {0}
+
+pub says : (s : List ℕ) (n k a : ℕ) → Says k a (meaning s n k a)
+unfolding meaning
+says s n zero a = refl
+says s n (suc zero) a = refl
+says s n (suc (suc zero)) a = refl
+says s n (suc (suc (suc zero))) a = (refl, refl)
+says s n (suc (suc (suc (suc zero)))) zero = (refl, refl)
+says s n (suc (suc (suc (suc zero)))) (suc a) = tt
+says s n (suc (suc (suc (suc (suc zero))))) zero = (refl, refl)
+says s n (suc (suc (suc (suc (suc zero))))) (suc a) = tt
+says s n (suc (suc (suc (suc (suc (suc k)))))) a = tt
+
+-- ---- no leaf's, no combinator's, no name's
+abbrev pub NoLeaf : Meaning → Type 0
+NoLeaf m = (l : Leaf) → m ≡ aLeaf l → ⊥
+
+abbrev pub NoJoin : Meaning → Type 0
+NoJoin m = (j : Join) → m ≡ aJoin j → ⊥
+
+module _ (s : List ℕ) (n k a : ℕ) where
+  kind-of-leaf : (l : Leaf) → meaning s n k a ≡ aLeaf l → k ≡ leafKind l
+  kind-of-leaf l e = rw e at (says s n k a)
+
+  kind-of-join : (j : Join) → meaning s n k a ≡ aJoin j → k ≡ joinKind j
+  kind-of-join j e = (rw e at (says s n k a)) .0
+
+  pub no-leaf : isLeaf k ≡ false → NoLeaf (meaning s n k a)
+  no-leaf h l e = true≢false (sym (leaf-is l) ∙ ap isLeaf (sym (kind-of-leaf l e)) ∙ h)
+
+  pub no-join : (atLeastKind ≤ k → k ≤ anyKind → ⊥) → NoJoin (meaning s n k a)
+  no-join h j e = let p = kind-of-join j e in h (omega (arith, p, join-among j)) (omega (arith, p, join-among j))
+
+  pub leaf-no-join : isLeaf k ≡ true → NoJoin (meaning s n k a)
+  leaf-no-join h = no-join (λ lo hi. omega (arith, leaf-low k h))
+
+  pub no-name : (k ≡ namedKind → ⊥) → (w : List ℕ) → meaning s n k a ≡ aLeaf (named w) → ⊥
+  no-name h w e = h (kind-of-leaf (named w) e)
