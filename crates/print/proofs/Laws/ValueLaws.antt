@@ -10,8 +10,8 @@ use lib.ListN.{length, drop}
 use Rattle.refusals.specs.declared.Refusal.{Refusal}
 use Rattle.refusals.specs.Refusals.{refusal, shortBuffer}
 use Rattle.rules.specs.Rule.{Rule}
+use Rattle.image.specs.Layout.{nodeCountIn}
 use Rattle.image.specs.Decode.{decode}
-use Rattle.little_endian.specs.Bytes.{leAt}
 use Rattle.image.proofs.Laws.InsideLaws.{decode-whole}
 use Rattle.print_text.specs.Print.{textOf}
 use Rattle.print.specs.Printed.{outcome, fitted, printRule, printInto}
@@ -39,7 +39,7 @@ module _ (image text : List ℕ) where
       go none e = refl
       go (some r) e =
           let w = decode-whole image refl e in
-          fitted-bounded (textOf r) text (omega (arith, text-short image (leAt image 0 2) r 0 (w .stands)))
+          fitted-bounded (textOf r) text (omega (arith, text-short image (nodeCountIn image) r 0 (w .stands)))
 
   pub print-value : (size : ℕ) → printInto image text .answer ≡ Printed size → size ≤ 65_600 * 2048
   print-value size e = rw e at bounded

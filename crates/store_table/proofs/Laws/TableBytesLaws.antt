@@ -7,7 +7,7 @@ use native.Mathlib.Omega.{arith}
 use borrow.Author.Tests.{le-leb}
 use lib.ListN.{length, take, drop, length-append, length-map}
 use lib.Seq.{take-append-seam, drop-append-seam, take-at, drop-at, drop-drop}
-use Rattle.little_endian.specs.Bytes.{leBytes, leAt, AllBytes}
+use Rattle.little_endian.specs.Bytes.{leBytes, leAt}
 use Rattle.little_endian.proofs.Laws.BytesLaws.{leNumber-leBytes, bytes-append, bytes-number}
 use Rattle.slices.specs.Text.{allAscii, AllBytes}
 use Rattle.slices.proofs.Laws.AsciiLaws.{bytes-ascii, append-ascii}
