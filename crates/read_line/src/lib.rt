@@ -26,13 +26,11 @@ pub fn reading_line(line: &mut [u8], text: &[u8]) -> usize
 {
     let mut image = [0u8; IMAGE_BYTES];
     match read::read(text, &mut image) {
-        Reading::Read(_) => append_numbers(
-            line,
-            0,
-            b"ok ",
-            node_count(&image) as u64,
-            name_byte_count(&image) as u64,
-        ),
+        Reading::Read(_) => {
+            let nodes = node_count(&image) as u64;
+            let bytes = name_byte_count(&image) as u64;
+            append_numbers(line, 0, b"ok ", nodes, bytes)
+        }
         Reading::Refused(f) => append_refusal(line, 0, f),
     }
 }

@@ -15,9 +15,6 @@ read-requires c κs = search needs
 enum-told : tie.Need-enum-told
 enum-told c = search needs
 
-slice-aggregate-append-numbers : tie.Need-slice-aggregate-append-numbers
-slice-aggregate-append-numbers c = search needs
-
 slice-aggregate-node-count : tie.Need-slice-aggregate-node-count
 slice-aggregate-node-count c = search needs
 
@@ -29,6 +26,9 @@ slice-aggregate-name-byte-count c = search needs
 
 name-byte-count-requires : tie.Need-name-byte-count-requires
 name-byte-count-requires c κs = search needs
+
+slice-aggregate-append-numbers : tie.Need-slice-aggregate-append-numbers
+slice-aggregate-append-numbers c = search needs
 
 append-numbers-requires : tie.Need-append-numbers-requires
 append-numbers-requires c κs = search needs
@@ -45,7 +45,7 @@ same-length c = search needs
 returns : tie.Need-returns
 returns c =
     let g = read-rule _ _ (search needs) (c .before .before .before .before .before .before .before .before .before .before .before .before .read .ensures) (c .before .before .before .before .before .before .before .before .before .enum-told .given .1) in
-    rw (read-numbers g (c .before .before .before .before .before .node-count .ensures .0) (c .before .before .before .name-byte-count .ensures .0)) (c .before .before .append-numbers .ensures)
+    rw (read-numbers g (c .before .before .before .before .before .before .before .node-count .ensures .0) (c .before .before .before .before .before .name-byte-count .ensures .0)) (c .before .before .append-numbers .ensures)
 
 same-length-2 : tie.Need-same-length-2
 same-length-2 c = search needs
@@ -60,11 +60,11 @@ reading-line-spec =
     slice-aggregate-read
     read-requires
     enum-told
-    slice-aggregate-append-numbers
     slice-aggregate-node-count
     node-count-requires
     slice-aggregate-name-byte-count
     name-byte-count-requires
+    slice-aggregate-append-numbers
     append-numbers-requires
     enum-known-f
     append-refusal-requires
