@@ -21,9 +21,6 @@ abbrev μ-loop : tie.MeasureT-loop
 loop-holds : tie.Need-loop-holds Inv-loop μ-loop
 loop-holds c = (fill-start _ _, refl, refl, refl)
 
-mark-at-requires : tie.Need-mark-at-requires Inv-loop μ-loop
-mark-at-requires c κs = search needs
-
 -- the argument ends behind its beginning and within the text
 stop-in : (c : tie.After-mark-at Inv-loop μ-loop) → (c .before .before .loop .at ≤ c .mark-at .result) × (c .mark-at .result ≤ length (c .before .before .before .before .before .before .before .args .args .now))
 stop-in c = end-within (other 0) _ _ (omega arith) (c .mark-at .ensures)
@@ -43,36 +40,12 @@ fill-one-requires c κs =
     let r = fill-room (t .before .loop .inv .0) (t .loop-test .taken) (t .before .before .before .before .before .before .pre .0) in
     omega arith
 
-enum-known-fault : tie.Need-enum-known-fault Inv-loop μ-loop
-enum-known-fault c = search needs
-
-add-t23 : tie.Need-add-t23 Inv-loop μ-loop
-add-t23 c = search needs
-
-same-length : tie.Need-same-length Inv-loop μ-loop
-same-length c = search needs
-
-same-length-2 : tie.Need-same-length-2 Inv-loop μ-loop
-same-length-2 c = search needs
-
-same-length-3 : tie.Need-same-length-3 Inv-loop μ-loop
-same-length-3 c = search needs
-
 returns : tie.Need-returns Inv-loop μ-loop
 returns c =
     let f = c .before .before .before .before .before .before .before .before .before in
     let m = f .before .before .before .before .before in
     let l = m .before .before .loop .inv .0 in
     fill-bad l (m .before .loop-test .taken) (m .mark-at .ensures) _ (f .fill-one .ensures .bad _ (c .before .fault .given .1))
-
-enum-known-end : tie.Need-enum-known-end Inv-loop μ-loop
-enum-known-end c = search needs
-
-next-arg-requires : tie.Need-next-arg-requires Inv-loop μ-loop
-next-arg-requires c κs = search needs
-
-add-k : tie.Need-add-k Inv-loop μ-loop
-add-k c = search needs
 
 loop-less : tie.Need-loop-less Inv-loop μ-loop
 loop-less c = let t = c .before .before .before .before .before .before .before .before .before .before .before .before .before .before .before .before in walk-less (t .before .loop .inv .0 .walk) (t .loop-test .taken) (c .next-arg .ensures)
@@ -88,15 +61,6 @@ loop-again c =
       search needs,
     )
 
-same-length-4 : tie.Need-same-length-4 Inv-loop μ-loop
-same-length-4 c = search needs
-
-same-length-5 : tie.Need-same-length-5 Inv-loop μ-loop
-same-length-5 c = search needs
-
-same-length-6 : tie.Need-same-length-6 Inv-loop μ-loop
-same-length-6 c = search needs
-
 returns-2 : tie.Need-returns-2 Inv-loop μ-loop
 returns-2 c = fill-end (c .before .loop .inv .0) (c .loop-test .left)
 
@@ -107,23 +71,23 @@ fill-spec =
     Inv-loop
     μ-loop
     loop-holds
-    mark-at-requires
+    (λ c κs. search needs)  -- mark-at-requires
     sub-fill-one
     part-fill-one-start
     part-fill-one-end
     fill-one-requires
-    enum-known-fault
-    add-t23
-    same-length
-    same-length-2
-    same-length-3
+    (λ c. search needs)  -- enum-known-fault
+    (λ c. search needs)  -- add-t23
+    (λ c. search needs)  -- same-length
+    (λ c. search needs)  -- same-length-2
+    (λ c. search needs)  -- same-length-3
     returns
-    enum-known-end
-    next-arg-requires
-    add-k
+    (λ c. search needs)  -- enum-known-end
+    (λ c κs. search needs)  -- next-arg-requires
+    (λ c. search needs)  -- add-k
     loop-less
     loop-again
-    same-length-4
-    same-length-5
-    same-length-6
+    (λ c. search needs)  -- same-length-4
+    (λ c. search needs)  -- same-length-5
+    (λ c. search needs)  -- same-length-6
     returns-2)

@@ -7,30 +7,6 @@ use Rattle.store_args.proofs.Laws.MadeLaws.{made-bad, made-room, made-table}
 use Rattle.args_table.proofs.table_of.Statement.{statement}
 use Rattle.args_table.proofs.table_of.Tie as tie
 
-slice-aggregate-fill : tie.Need-slice-aggregate-fill
-slice-aggregate-fill c = search needs
-
-slice-aggregate-fill-2 : tie.Need-slice-aggregate-fill-2
-slice-aggregate-fill-2 c = search needs
-
-slice-aggregate-fill-3 : tie.Need-slice-aggregate-fill-3
-slice-aggregate-fill-3 c = search needs
-
-fill-requires : tie.Need-fill-requires
-fill-requires c κs = search needs
-
-enum-known-index : tie.Need-enum-known-index
-enum-known-index c = search needs
-
-enum-known-count : tie.Need-enum-known-count
-enum-known-count c = search needs
-
-put2-requires : tie.Need-put2-requires
-put2-requires c κs = search needs
-
-put2-requires-2 : tie.Need-put2-requires-2
-put2-requires-2 c κs = search needs
-
 -- the stores and their names fit the arrays
 room : (c : tie.After-known-told2) → let g = c .before .count .given .0 in (g .0 ≤ 64) × (g .1 .0 ≤ 16_320)
 room c = made-room _ (c .before .before .before .before .before .before .fill .ensures) (c .before .count .given .1) (c .before .before .before .before .before .before .before .before .before .before .before .before .pre .0)
@@ -65,9 +41,6 @@ append-requires-3 c κs = omega (arith, room (c .before .before .before .before 
 returns : tie.Need-returns
 returns c = made-bad (c .before .before .before .before .before .before .fill .ensures) _ (c .before .index .given .1)
 
-same-length : tie.Need-same-length
-same-length c = search needs
-
 returns-2 : tie.Need-returns-2
 returns-2 c =
     let p₅ = c .before .before in
@@ -82,14 +55,14 @@ pub table-of-spec : {M : Type 1} → statement M
 table-of-spec =
     tie.close
     (tie.spec
-    slice-aggregate-fill
-    slice-aggregate-fill-2
-    slice-aggregate-fill-3
-    fill-requires
-    enum-known-index
-    enum-known-count
-    put2-requires
-    put2-requires-2
+    (λ c. search needs)  -- slice-aggregate-fill
+    (λ c. search needs)  -- slice-aggregate-fill-2
+    (λ c. search needs)  -- slice-aggregate-fill-3
+    (λ c κs. search needs)  -- fill-requires
+    (λ c. search needs)  -- enum-known-index
+    (λ c. search needs)  -- enum-known-count
+    (λ c κs. search needs)  -- put2-requires
+    (λ c κs. search needs)  -- put2-requires-2
     array-share-prefix-modes
     slice-aggregate-append
     append-requires
@@ -100,5 +73,5 @@ table-of-spec =
     slice-aggregate-append-3
     append-requires-3
     returns
-    same-length
+    (λ c. search needs)  -- same-length
     returns-2)

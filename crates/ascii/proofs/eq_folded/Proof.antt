@@ -22,28 +22,10 @@ returns c = sym (unlike _ _ _ (c .if1 .taken))
 loop-holds : tie.Need-loop-holds Inv-loop μ-loop
 loop-holds c = refl
 
-shared-slice-read-folded : tie.Need-shared-slice-read-folded Inv-loop μ-loop
-shared-slice-read-folded c = omega arith
-
-folded-requires : tie.Need-folded-requires Inv-loop μ-loop
-folded-requires c κs = search needs
-
-shared-slice-read-folded-2 : tie.Need-shared-slice-read-folded-2 Inv-loop μ-loop
-shared-slice-read-folded-2 c = omega arith
-
-folded-requires-2 : tie.Need-folded-requires-2 Inv-loop μ-loop
-folded-requires-2 c κs = search needs
-
 returns-2 : tie.Need-returns-2 Inv-loop μ-loop
 returns-2 c =
     let l = c .before .before .before .before .before .before .loop in
     sym (equal-off _ _ _ (l .i) (omega arith) (omega arith) (is-not (c .before .before .before .folded .ensures) (c .before .folded2 .ensures) (c .if2 .taken))) ∙ l .inv
-
-add-i : tie.Need-add-i Inv-loop μ-loop
-add-i c = omega arith
-
-loop-less : tie.Need-loop-less Inv-loop μ-loop
-loop-less c = omega arith
 
 loop-again : tie.Need-loop-again Inv-loop μ-loop
 loop-again c =
@@ -61,12 +43,12 @@ eq-folded-spec =
     μ-loop
     returns
     loop-holds
-    shared-slice-read-folded
-    folded-requires
-    shared-slice-read-folded-2
-    folded-requires-2
+    (λ c. omega arith)  -- shared-slice-read-folded
+    (λ c κs. search needs)  -- folded-requires
+    (λ c. omega arith)  -- shared-slice-read-folded-2
+    (λ c κs. search needs)  -- folded-requires-2
     returns-2
-    add-i
-    loop-less
+    (λ c. omega arith)  -- add-i
+    (λ c. omega arith)  -- loop-less
     loop-again
     returns-3)

@@ -6,36 +6,6 @@ use borrow.Author.Needs.{needs}
 use Rattle.calls.proofs.call_head.Statement.{statement}
 use Rattle.calls.proofs.call_head.Tie as tie
 
-enum-told : tie.Need-enum-told
-enum-told c = search needs
-
-older-than-head-requires : tie.Need-older-than-head-requires
-older-than-head-requires c κs = search needs
-
-enum-told-2 : tie.Need-enum-told-2
-enum-told-2 c = search needs
-
-readable-head-requires : tie.Need-readable-head-requires
-readable-head-requires c κs = search needs
-
-enum-told-3 : tie.Need-enum-told-3
-enum-told-3 c = search needs
-
-enum-told-4 : tie.Need-enum-told-4
-enum-told-4 c = search needs
-
-enum-told-5 : tie.Need-enum-told-5
-enum-told-5 c = search needs
-
-at-least-head-requires : tie.Need-at-least-head-requires
-at-least-head-requires c κs = search needs
-
-enum-told-6 : tie.Need-enum-told-6
-enum-told-6 c = search needs
-
-refuse-requires : tie.Need-refuse-requires
-refuse-requires c κs = search needs
-
 returns : tie.Need-returns
 returns c = rw (c .before .enum-told .given .1) (c .older-than-head .ensures)
 
@@ -58,16 +28,16 @@ pub call-head-spec : {M : Type 1} → statement M
 call-head-spec =
     tie.close
     (tie.spec
-    enum-told
-    older-than-head-requires
-    enum-told-2
-    readable-head-requires
-    enum-told-3
-    enum-told-4
-    enum-told-5
-    at-least-head-requires
-    enum-told-6
-    refuse-requires
+    (λ c. search needs)  -- enum-told
+    (λ c κs. search needs)  -- older-than-head-requires
+    (λ c. search needs)  -- enum-told-2
+    (λ c κs. search needs)  -- readable-head-requires
+    (λ c. search needs)  -- enum-told-3
+    (λ c. search needs)  -- enum-told-4
+    (λ c. search needs)  -- enum-told-5
+    (λ c κs. search needs)  -- at-least-head-requires
+    (λ c. search needs)  -- enum-told-6
+    (λ c κs. search needs)  -- refuse-requires
     returns
     returns-2
     returns-3

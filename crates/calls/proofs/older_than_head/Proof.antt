@@ -11,36 +11,12 @@ use borrow.Author.Needs.{needs}
 use Rattle.calls.proofs.older_than_head.Statement.{statement}
 use Rattle.calls.proofs.older_than_head.Tie as tie
 
-token-at-requires : tie.Need-token-at-requires
-token-at-requires c κs = search needs
-
-enum-known-t : tie.Need-enum-known-t
-enum-known-t c = search needs
-
-place-of-requires : tie.Need-place-of-requires
-place-of-requires c κs = search needs
-
-refuse-requires : tie.Need-refuse-requires
-refuse-requires c κs = search needs
-
 returns : tie.Need-returns
 unfolding olderThanHead
 returns c =
     let m = c .before .before in
     begins-refused (c .refuse .ensures) (c .before .place-of .ensures)
     (rw (no-word _ _ (m .before .token-at .ensures) (m .match .keys2)))
-
-token-at-requires-2 : tie.Need-token-at-requires-2
-token-at-requires-2 c κs = search needs
-
-enum-known-bracket : tie.Need-enum-known-bracket
-enum-known-bracket c = search needs
-
-place-of-requires-2 : tie.Need-place-of-requires-2
-place-of-requires-2 c κs = search needs
-
-refuse-requires-2 : tie.Need-refuse-requires-2
-refuse-requires-2 c κs = search needs
 
 returns-2 : tie.Need-returns-2
 unfolding olderThanHead
@@ -60,18 +36,6 @@ word-of-requires c κs =
     let t = c .before .before .before .before .before in
     let w = word-part _ _ (sym (t .before .before .token-at .ensures) ∙ t .t .given .1) in
     omega arith
-
-parse-duration-requires : tie.Need-parse-duration-requires
-parse-duration-requires c κs = search needs
-
-enum-known-milliseconds : tie.Need-enum-known-milliseconds
-enum-known-milliseconds c = search needs
-
-enum-told : tie.Need-enum-told
-enum-told c = search needs
-
-refuse-requires-3 : tie.Need-refuse-requires-3
-refuse-requires-3 c κs = search needs
 
 returns-3 : tie.Need-returns-3
 unfolding olderThanHead nextOf
@@ -108,20 +72,20 @@ pub older-than-head-spec : {M : Type 1} → statement M
 older-than-head-spec =
     tie.close
     (tie.spec
-    token-at-requires
-    enum-known-t
-    place-of-requires
-    refuse-requires
+    (λ c κs. search needs)  -- token-at-requires
+    (λ c. search needs)  -- enum-known-t
+    (λ c κs. search needs)  -- place-of-requires
+    (λ c κs. search needs)  -- refuse-requires
     returns
-    token-at-requires-2
-    enum-known-bracket
-    place-of-requires-2
-    refuse-requires-2
+    (λ c κs. search needs)  -- token-at-requires-2
+    (λ c. search needs)  -- enum-known-bracket
+    (λ c κs. search needs)  -- place-of-requires-2
+    (λ c κs. search needs)  -- refuse-requires-2
     returns-2
     word-of-requires
-    parse-duration-requires
-    enum-known-milliseconds
-    enum-told
-    refuse-requires-3
+    (λ c κs. search needs)  -- parse-duration-requires
+    (λ c. search needs)  -- enum-known-milliseconds
+    (λ c. search needs)  -- enum-told
+    (λ c κs. search needs)  -- refuse-requires-3
     returns-3
     returns-4)

@@ -27,29 +27,14 @@ the-stores c = record {
   stored = λ e. omega (arith, c .if2 .left, c .before .count-of .ensures);
 }
 
-is-table-requires : tie.Need-is-table-requires
-is-table-requires c κs = search needs
-
-refuse-requires : tie.Need-refuse-requires
-refuse-requires c κs = search needs
-
 returns : tie.Need-returns
 returns c r z st = c .refuse .ensures ∙ refused-17 r _ (sym (c .before .before .is-table .ensures) ∙ not-true _ (c .before .if1 .taken))
 
 twin-of-requires : tie.Need-twin-of-requires
 twin-of-requires c κs = (well-made-laid _ _ (the-table (c .before .before)), zeros-blank 512)
 
-enum-known-i : tie.Need-enum-known-i
-enum-known-i c = search needs
-
-refuse-requires-2 : tie.Need-refuse-requires-2
-refuse-requires-2 c κs = search needs
-
 returns-2 : tie.Need-returns-2
 returns-2 c r z st = c .refuse2 .ensures ∙ refused-18 r _ (the-table (c .before .before .before .before .before .before .before)) (sym (c .before .before .before .before .twin-of .ensures .0) ∙ c .before .before .i .given .1)
-
-enum-told : tie.Need-enum-told
-enum-told c = search needs
 
 count-of-requires : tie.Need-count-of-requires
 count-of-requires c κs = well-made-laid _ _ (the-table (c .before .before .before .before .before))
@@ -63,26 +48,20 @@ check-names-requires c κs =
     let s = t .before .before .before .before .before .before .before .before .before in
     (s .pre .0, (s .pre .1, (the-stores (c .before .before .before), t .before .twin-of .ensures .1 (c .before .before .before .before .before .enum-told .given .1))))
 
-same-length : tie.Need-same-length
-same-length c = search needs
-
-returns-4 : tie.Need-returns-4
-returns-4 c = search needs
-
 pub check-in-spec : {M : Type 1} → statement M
 check-in-spec =
     tie.close
     (tie.spec
-    is-table-requires
-    refuse-requires
+    (λ c κs. search needs)  -- is-table-requires
+    (λ c κs. search needs)  -- refuse-requires
     returns
     twin-of-requires
-    enum-known-i
-    refuse-requires-2
+    (λ c. search needs)  -- enum-known-i
+    (λ c κs. search needs)  -- refuse-requires-2
     returns-2
-    enum-told
+    (λ c. search needs)  -- enum-told
     count-of-requires
     returns-3
     check-names-requires
-    same-length
-    returns-4)
+    (λ c. search needs)  -- same-length
+    (λ c. search needs))  -- returns-4

@@ -23,34 +23,13 @@ the-bare c r z st = c .evaluate .ensures r z st ∙ by-says _ _ (worldOf _ oldes
 the-archived : (c : tie.After-evaluate2) → (let s = c .before .before .before .before .before .before .before .before .before .before .before .before .before .before .args in (r : Rule) → size r ≡ s .n → Stands r (cellAt (s .image .now) (s .n)) 0 → c .evaluate2 .result ≡ evict r (worldOf (entriesIn (s .stores .now)) oldest (writeOnlyNames (entriesIn (s .stores .now)))))
 the-archived c r z st = c .evaluate2 .ensures r z st ∙ by-says _ _ (worldOf _ oldest (writeOnlyNames _)) _ (λ i lt l e. c .before .before .before .before .before .before .before .before .before .grade-leaves .ensures .1 (c .before .before .before .before .before .enum-told .given .1) i lt l e .archived) r 0 (omega arith) st
 
-grade-leaves-requires : tie.Need-grade-leaves-requires
-grade-leaves-requires c κs = search needs
-
-enum-known-i : tie.Need-enum-known-i
-enum-known-i c = search needs
-
-refuse-requires : tie.Need-refuse-requires
-refuse-requires c κs = search needs
-
-same-length : tie.Need-same-length
-same-length c = search needs
-
 returns : tie.Need-returns
 returns c r z st =
     let s = c .before .before .before .before .before .before .before .before .before .before .before in
     c .refuse .ensures ∙ refused-20 r _ (s .pre .1 .1 .0) (c .before .before .before .before .before .before .grade-leaves .ensures .0 r z st) (c .before .before .i .given .1)
 
-enum-told : tie.Need-enum-told
-enum-told c = search needs
-
 evaluate-requires : tie.Need-evaluate-requires
 evaluate-requires c κs = (rowOf (c .before .before .before .before .before .before .before .before .before .before .pre .0), search needs)
-
-refuse-requires-2 : tie.Need-refuse-requires-2
-refuse-requires-2 c κs = search needs
-
-same-length-2 : tie.Need-same-length-2
-same-length-2 c = search needs
 
 returns-2 : tie.Need-returns-2
 returns-2 c r z st =
@@ -61,20 +40,11 @@ returns-2 c r z st =
 evaluate-requires-2 : tie.Need-evaluate-requires-2
 evaluate-requires-2 c κs = (rowOf (c .before .before .before .before .before .before .before .before .before .before .before .before .before .pre .0), search needs)
 
-refuse-requires-3 : tie.Need-refuse-requires-3
-refuse-requires-3 c κs = search needs
-
-same-length-3 : tie.Need-same-length-3
-same-length-3 c = search needs
-
 returns-3 : tie.Need-returns-3
 returns-3 c r z st =
     let g = c .before .before .before .before .before .before .before .before .before .before .before in
     let s = g .before .before .before .before .before in
     c .refuse3 .ensures ∙ refused-22 r _ (s .pre .1 .1 .0) (g .grade-leaves .ensures .0 r z st) (c .before .before .before .before .before .before .before .enum-told .given .1) (the-bare (c .before .before .before .before .before) r z st) (c .before .before .before .before .if1 .left) (the-archived (c .before .before) r z st) (c .before .if2 .taken)
-
-same-length-4 : tie.Need-same-length-4
-same-length-4 c = search needs
 
 returns-4 : tie.Need-returns-4
 returns-4 c r z st =
@@ -86,19 +56,19 @@ pub check-names-spec : {M : Type 1} → statement M
 check-names-spec =
     tie.close
     (tie.spec
-    grade-leaves-requires
-    enum-known-i
-    refuse-requires
-    same-length
+    (λ c κs. search needs)  -- grade-leaves-requires
+    (λ c. search needs)  -- enum-known-i
+    (λ c κs. search needs)  -- refuse-requires
+    (λ c. search needs)  -- same-length
     returns
-    enum-told
+    (λ c. search needs)  -- enum-told
     evaluate-requires
-    refuse-requires-2
-    same-length-2
+    (λ c κs. search needs)  -- refuse-requires-2
+    (λ c. search needs)  -- same-length-2
     returns-2
     evaluate-requires-2
-    refuse-requires-3
-    same-length-3
+    (λ c κs. search needs)  -- refuse-requires-3
+    (λ c. search needs)  -- same-length-3
     returns-3
-    same-length-4
+    (λ c. search needs)  -- same-length-4
     returns-4)

@@ -20,22 +20,10 @@ abbrev μ-loop : tie.MeasureT-loop
 loop-holds : tie.Need-loop-holds Inv-loop μ-loop
 loop-holds c = refl
 
-shared-slice-read-class-at : tie.Need-shared-slice-read-class-at Inv-loop μ-loop
-shared-slice-read-class-at c = omega arith
-
-class-at-requires : tie.Need-class-at-requires Inv-loop μ-loop
-class-at-requires c κs = search needs
-
 returns : tie.Need-returns Inv-loop μ-loop
 returns c =
     let l = c .before .before .before .before .loop in
     sym (end-stop _ _ (l .i) (omega arith) (not-of-class _ (c .before .class-at .ensures) (c .if1 .taken))) ∙ l .inv
-
-add-i : tie.Need-add-i Inv-loop μ-loop
-add-i c = omega arith
-
-loop-less : tie.Need-loop-less Inv-loop μ-loop
-loop-less c = omega arith
 
 loop-again : tie.Need-loop-again Inv-loop μ-loop
 loop-again c =
@@ -52,10 +40,10 @@ class-end-spec =
     Inv-loop
     μ-loop
     loop-holds
-    shared-slice-read-class-at
-    class-at-requires
+    (λ c. omega arith)  -- shared-slice-read-class-at
+    (λ c κs. search needs)  -- class-at-requires
     returns
-    add-i
-    loop-less
+    (λ c. omega arith)  -- add-i
+    (λ c. omega arith)  -- loop-less
     loop-again
     returns-2)

@@ -8,31 +8,10 @@ use Rattle.store_table.proofs.Laws.WalkLaws.{entries-all}
 use Rattle.confirmed.proofs.is_confirmed.Statement.{statement}
 use Rattle.confirmed.proofs.is_confirmed.Tie as tie
 
-find-requires : tie.Need-find-requires
-find-requires c κs = search needs
-
-enum-known-k : tie.Need-enum-known-k
-enum-known-k c = search needs
-
 element-copy-out-result : tie.Need-element-copy-out-result
 element-copy-out-result c =
     let f = c .before .before .before in
     omega (arith, f .find .ensures .there _ (c .before .k .given .1), f .before .before .before .before .pre .0 .few)
-
-enum-told : tie.Need-enum-told
-enum-told c = search needs
-
-count-of-requires : tie.Need-count-of-requires
-count-of-requires c κs = search needs
-
-position-requires : tie.Need-position-requires
-position-requires c κs = search needs
-
-enum-told-2 : tie.Need-enum-told-2
-enum-told-2 c = search needs
-
-enum-told-3 : tie.Need-enum-told-3
-enum-told-3 c = search needs
 
 returns : tie.Need-returns
 returns c =
@@ -59,14 +38,14 @@ pub is-confirmed-spec : {M : Type 1} → statement M
 is-confirmed-spec =
     tie.close
     (tie.spec
-    find-requires
-    enum-known-k
+    (λ c κs. search needs)  -- find-requires
+    (λ c. search needs)  -- enum-known-k
     element-copy-out-result
-    enum-told
-    count-of-requires
-    position-requires
-    enum-told-2
-    enum-told-3
+    (λ c. search needs)  -- enum-told
+    (λ c κs. search needs)  -- count-of-requires
+    (λ c κs. search needs)  -- position-requires
+    (λ c. search needs)  -- enum-told-2
+    (λ c. search needs)  -- enum-told-3
     returns
     returns-2
     returns-3)

@@ -22,12 +22,6 @@ abbrev μ-loop : tie.MeasureT-loop
 inside : (c : tie.After-length-at Inv-loop μ-loop) → c .before .before .loop .at + c .length-at .result ≤ length (c .before .before .before .before .before .before .before .args .list .now)
 inside c = omega (arith, standing-within (c .before .before .loop .inv .0) (c .before .loop-test .taken) (c .length-at .ensures .0))
 
-count-of-requires : tie.Need-count-of-requires Inv-loop μ-loop
-count-of-requires c κs = search needs
-
-names-start-requires : tie.Need-names-start-requires Inv-loop μ-loop
-names-start-requires c κs = search needs
-
 loop-holds : tie.Need-loop-holds Inv-loop μ-loop
 loop-holds c =
     let s = c .before .before .before .before in
@@ -39,37 +33,16 @@ length-at-requires c κs = let l = c .before .loop in (l .inv .0 .laid, (l .inv 
 add-find : tie.Need-add-find Inv-loop μ-loop
 add-find c = omega (arith, inside c)
 
-sub-find : tie.Need-sub-find Inv-loop μ-loop
-sub-find c = omega arith
-
-part-find-start : tie.Need-part-find-start Inv-loop μ-loop
-part-find-start c = omega arith
-
 part-find-end : tie.Need-part-find-end Inv-loop μ-loop
 part-find-end c = omega (arith, inside c)
-
-find-requires : tie.Need-find-requires Inv-loop μ-loop
-find-requires c κs = search needs
-
-enum-known-i : tie.Need-enum-known-i Inv-loop μ-loop
-enum-known-i c = search needs
 
 mark-requires : tie.Need-mark-requires Inv-loop μ-loop
 mark-requires c κs =
     let f = c .before .before .before .before .find .ensures .there _ (c .before .before .i .given .1) in
     omega (arith, c .mark-arg .given .0 .1, f .0)
 
-enum-told : tie.Need-enum-told Inv-loop μ-loop
-enum-told c = search needs
-
 add-at : tie.Need-add-at Inv-loop μ-loop
 add-at c = omega (arith, inside (c .before .before .before))
-
-add-k : tie.Need-add-k Inv-loop μ-loop
-add-k c = omega arith
-
-loop-less : tie.Need-loop-less Inv-loop μ-loop
-loop-less c = omega arith
 
 loop-again : tie.Need-loop-again Inv-loop μ-loop
 loop-again c =
@@ -102,20 +75,20 @@ mark-confirmed-spec =
     (tie.spec
     Inv-loop
     μ-loop
-    count-of-requires
-    names-start-requires
+    (λ c κs. search needs)  -- count-of-requires
+    (λ c κs. search needs)  -- names-start-requires
     loop-holds
     length-at-requires
     add-find
-    sub-find
-    part-find-start
+    (λ c. omega arith)  -- sub-find
+    (λ c. omega arith)  -- part-find-start
     part-find-end
-    find-requires
-    enum-known-i
+    (λ c κs. search needs)  -- find-requires
+    (λ c. search needs)  -- enum-known-i
     mark-requires
-    enum-told
+    (λ c. search needs)  -- enum-told
     add-at
-    add-k
-    loop-less
+    (λ c. omega arith)  -- add-k
+    (λ c. omega arith)  -- loop-less
     loop-again
     returns)

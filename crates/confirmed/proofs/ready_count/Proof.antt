@@ -16,29 +16,11 @@ Inv-loop stores marks count k₀ ready₀ k ready = Ready (entriesIn stores) mar
 abbrev μ-loop : tie.MeasureT-loop
 μ-loop stores marks count k₀ ready₀ k ready = count - k
 
-count-of-requires : tie.Need-count-of-requires Inv-loop μ-loop
-count-of-requires c κs = search needs
-
 loop-holds : tie.Need-loop-holds Inv-loop μ-loop
 loop-holds c = ready-start _ _
 
 mode-at-requires : tie.Need-mode-at-requires Inv-loop μ-loop
 mode-at-requires c κs = (c .before .before .before .before .pre, omega arith)
-
-is-readable-requires : tie.Need-is-readable-requires Inv-loop μ-loop
-is-readable-requires c κs = search needs
-
-element-copy-out-if2 : tie.Need-element-copy-out-if2 Inv-loop μ-loop
-element-copy-out-if2 c = omega arith
-
-add-ready : tie.Need-add-ready Inv-loop μ-loop
-add-ready c = omega arith
-
-add-k : tie.Need-add-k Inv-loop μ-loop
-add-k c = omega arith
-
-loop-less : tie.Need-loop-less Inv-loop μ-loop
-loop-less c = omega arith
 
 loop-again : tie.Need-loop-again Inv-loop μ-loop
 loop-again c =
@@ -61,13 +43,13 @@ ready-count-spec =
     (tie.spec
     Inv-loop
     μ-loop
-    count-of-requires
+    (λ c κs. search needs)  -- count-of-requires
     loop-holds
     mode-at-requires
-    is-readable-requires
-    element-copy-out-if2
-    add-ready
-    add-k
-    loop-less
+    (λ c κs. search needs)  -- is-readable-requires
+    (λ c. omega arith)  -- element-copy-out-if2
+    (λ c. omega arith)  -- add-ready
+    (λ c. omega arith)  -- add-k
+    (λ c. omega arith)  -- loop-less
     loop-again
     returns)

@@ -28,21 +28,9 @@ the-lone c = sym (c .before .before .twin-of .ensures .0) ∙ c .enum-told .give
 the-list : (c : tie.Else3) → isList (c .before .before .before .before .before .before .before .before .before .before .before .before .before .before .args .list .now) ≡ true
 the-list c = sym (c .before .is-list .ensures) ∙ not-false _ (c .if3 .left)
 
-is-image-requires : tie.Need-is-image-requires
-is-image-requires c κs = search needs
-
-refuse-requires : tie.Need-refuse-requires
-refuse-requires c κs = search needs
-
 returns : tie.Need-returns
 returns c =
     c .refuse .ensures ∙ refused-16 _ _ _ _ (sym (c .before .before .is-image .ensures) ∙ not-true _ (c .before .if1 .taken))
-
-is-table-requires : tie.Need-is-table-requires
-is-table-requires c κs = search needs
-
-refuse-requires-2 : tie.Need-refuse-requires-2
-refuse-requires-2 c κs = search needs
 
 returns-2 : tie.Need-returns-2
 returns-2 c =
@@ -51,24 +39,9 @@ returns-2 c =
 twin-of-requires : tie.Need-twin-of-requires
 twin-of-requires c κs = (well-made-laid _ _ (the-table (c .before .before)), zeros-blank 512)
 
-enum-known-i : tie.Need-enum-known-i
-enum-known-i c = search needs
-
-refuse-requires-3 : tie.Need-refuse-requires-3
-refuse-requires-3 c κs = search needs
-
 returns-3 : tie.Need-returns-3
 returns-3 c =
     c .refuse3 .ensures ∙ refused-18 _ _ _ _ (the-image (c .before .before .before .before .before .before .before .before .before)) (the-table (c .before .before .before .before .before .before .before)) (sym (c .before .before .before .before .twin-of .ensures .0) ∙ c .before .before .i .given .1)
-
-enum-told : tie.Need-enum-told
-enum-told c = search needs
-
-is-list-requires : tie.Need-is-list-requires
-is-list-requires c κs = search needs
-
-refuse-requires-4 : tie.Need-refuse-requires-4
-refuse-requires-4 c κs = search needs
 
 returns-4 : tie.Need-returns-4
 returns-4 c =
@@ -108,19 +81,19 @@ pub decide-spec : {M : Type 1} → statement M
 decide-spec =
     tie.close
     (tie.spec
-    is-image-requires
-    refuse-requires
+    (λ c κs. search needs)  -- is-image-requires
+    (λ c κs. search needs)  -- refuse-requires
     returns
-    is-table-requires
-    refuse-requires-2
+    (λ c κs. search needs)  -- is-table-requires
+    (λ c κs. search needs)  -- refuse-requires-2
     returns-2
     twin-of-requires
-    enum-known-i
-    refuse-requires-3
+    (λ c. search needs)  -- enum-known-i
+    (λ c κs. search needs)  -- refuse-requires-3
     returns-3
-    enum-told
-    is-list-requires
-    refuse-requires-4
+    (λ c. search needs)  -- enum-told
+    (λ c κs. search needs)  -- is-list-requires
+    (λ c κs. search needs)  -- refuse-requires-4
     returns-4
     mark-confirmed-requires
     node-count-requires

@@ -10,23 +10,8 @@ use Rattle.verdict.specs.Check.{oldest}
 use Rattle.details.proofs.append_age.Statement.{statement}
 use Rattle.details.proofs.append_age.Tie as tie
 
-slice-aggregate-append : tie.Need-slice-aggregate-append
-slice-aggregate-append c = search needs
-
-append-requires : tie.Need-append-requires
-append-requires c κs = search needs
-
-append-digits-requires : tie.Need-append-digits-requires
-append-digits-requires c κs = search needs
-
-slice-aggregate-append-2 : tie.Need-slice-aggregate-append-2
-slice-aggregate-append-2 c = search needs
-
 append-requires-2 : tie.Need-append-requires-2
 append-requires-2 c κs = omega (arith, digits-short oldest)
-
-same-length : tie.Need-same-length
-same-length c = search needs
 
 returns : tie.Need-returns
 returns c =
@@ -41,10 +26,10 @@ pub append-age-spec : {M : Type 1} → statement M
 append-age-spec =
     tie.close
     (tie.spec
-    slice-aggregate-append
-    append-requires
-    append-digits-requires
-    slice-aggregate-append-2
+    (λ c. search needs)  -- slice-aggregate-append
+    (λ c κs. search needs)  -- append-requires
+    (λ c κs. search needs)  -- append-digits-requires
+    (λ c. search needs)  -- slice-aggregate-append-2
     append-requires-2
-    same-length
+    (λ c. search needs)  -- same-length
     returns)

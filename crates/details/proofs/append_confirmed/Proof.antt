@@ -9,23 +9,8 @@ use Rattle.lines.proofs.Laws.LinesLaws.{shown-length}
 use Rattle.details.proofs.append_confirmed.Statement.{statement}
 use Rattle.details.proofs.append_confirmed.Tie as tie
 
-slice-aggregate-append : tie.Need-slice-aggregate-append
-slice-aggregate-append c = search needs
-
-append-requires : tie.Need-append-requires
-append-requires c κs = search needs
-
-append-shown-requires : tie.Need-append-shown-requires
-append-shown-requires c κs = search needs
-
-slice-aggregate-append-2 : tie.Need-slice-aggregate-append-2
-slice-aggregate-append-2 c = search needs
-
 append-requires-2 : tie.Need-append-requires-2
 append-requires-2 c κs = omega (arith, shown-length (c .before .before .before .before .before .before .before .before .before .before .before .before .before .args .name .now))
-
-same-length : tie.Need-same-length
-same-length c = search needs
 
 returns : tie.Need-returns
 returns c =
@@ -40,10 +25,10 @@ pub append-confirmed-spec : {M : Type 1} → statement M
 append-confirmed-spec =
     tie.close
     (tie.spec
-    slice-aggregate-append
-    append-requires
-    append-shown-requires
-    slice-aggregate-append-2
+    (λ c. search needs)  -- slice-aggregate-append
+    (λ c κs. search needs)  -- append-requires
+    (λ c κs. search needs)  -- append-shown-requires
+    (λ c. search needs)  -- slice-aggregate-append-2
     append-requires-2
-    same-length
+    (λ c. search needs)  -- same-length
     returns)

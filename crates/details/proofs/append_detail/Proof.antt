@@ -27,48 +27,18 @@ no-more c o =
     let r = c .match .rest in
     rw (detail-none (a .text .now) (entriesIn (a .stores .now)) (a .f) o (r .0 .0 .0 .1) (r .0 .0 .1) (r .0 .1) (r .1)) (put-none _ _)
 
-slice-aggregate-append : tie.Need-slice-aggregate-append
-slice-aggregate-append c = search needs
-
-append-requires : tie.Need-append-requires
-append-requires c κs = search needs
-
 add-append-digits : tie.Need-add-append-digits
 add-append-digits c =
     let m = c .before .before .before .before .before .before in
     omega (arith, m .before .before .before .before .pre .due .index (m .match .keys1))
 
-append-digits-requires : tie.Need-append-digits-requires
-append-digits-requires c κs = search needs
-
-slice-aggregate-append-2 : tie.Need-slice-aggregate-append-2
-slice-aggregate-append-2 c = search needs
-
 append-requires-2 : tie.Need-append-requires-2
 append-requires-2 c κs = omega (arith, digits-short (c .before .before .before .before .before .before .before .before .before .before .before .before .before .before .before .args .f .place + 1))
-
-append-node-requires : tie.Need-append-node-requires
-append-node-requires c κs = search needs
-
-slice-aggregate-append-3 : tie.Need-slice-aggregate-append-3
-slice-aggregate-append-3 c = search needs
 
 append-requires-3 : tie.Need-append-requires-3
 append-requires-3 c κs =
     let a = c .before .before .before .before .before .before .before .before .before .before .args in
     omega (arith, shown-length (nodeName (readOf (a .text .now)) (a .f .place)), name-short (a .text .now) (a .f .place))
-
-slice-aggregate-append-4 : tie.Need-slice-aggregate-append-4
-slice-aggregate-append-4 c = search needs
-
-append-requires-4 : tie.Need-append-requires-4
-append-requires-4 c κs = search needs
-
-append-age-requires : tie.Need-append-age-requires
-append-age-requires c κs = search needs
-
-append-write-only-requires : tie.Need-append-write-only-requires
-append-write-only-requires c κs = search needs
 
 append-age-requires-2 : tie.Need-append-age-requires-2
 append-age-requires-2 c κs =
@@ -77,9 +47,6 @@ append-age-requires-2 c κs =
 
 append-place-requires : tie.Need-append-place-requires
 append-place-requires c κs = (c .before .before .before .before .before .before .before .pre .due .short (omega arith) (omega arith), omega arith)
-
-same-length : tie.Need-same-length
-same-length c = search needs
 
 returns : tie.Need-returns
 unfolding detail
@@ -92,9 +59,6 @@ returns c =
     let h : a .at ≤ length (a .page .now) = omega arith in
     rw (m .match .keys1) (simp (append-assoc, add-one) at (put-behind h (put-behind h (e₁ .append .ensures) (e₂ .append-digits .ensures)) (e₃ .append2 .ensures)))
 
-same-length-2 : tie.Need-same-length-2
-same-length-2 c = search needs
-
 returns-2 : tie.Need-returns-2
 unfolding detail
 returns-2 c =
@@ -102,9 +66,6 @@ returns-2 c =
     let e₁ = e₂ .before .before .before .before .before in
     let m = e₁ .before .before in
     rw (m .match .keys2) (put-behind (omega arith) (e₁ .append-node .ensures) (e₂ .append3 .ensures))
-
-same-length-3 : tie.Need-same-length-3
-same-length-3 c = search needs
 
 returns-3 : tie.Need-returns-3
 unfolding detail
@@ -114,9 +75,6 @@ returns-3 c =
     let m = e₁ .before .before .before in
     rw (m .match .keys3) (put-behind (omega arith) (e₁ .append4 .ensures) (e₂ .append-age .ensures))
 
-same-length-4 : tie.Need-same-length-4
-same-length-4 c = search needs
-
 returns-4 : tie.Need-returns-4
 unfolding detail
 returns-4 c =
@@ -124,9 +82,6 @@ returns-4 c =
     let e₁ = e₂ .before .before .before .before in
     let m = e₁ .before .before in
     rw (m .match .keys4) (put-behind (omega arith) (e₁ .append-write-only .ensures) (e₂ .append-age2 .ensures))
-
-same-length-5 : tie.Need-same-length-5
-same-length-5 c = search needs
 
 returns-5 : tie.Need-returns-5
 unfolding detail
@@ -144,30 +99,30 @@ pub append-detail-spec : {M : Type 1} → statement M
 append-detail-spec =
     tie.close
     (tie.spec
-    slice-aggregate-append
-    append-requires
+    (λ c. search needs)  -- slice-aggregate-append
+    (λ c κs. search needs)  -- append-requires
     add-append-digits
-    append-digits-requires
-    slice-aggregate-append-2
+    (λ c κs. search needs)  -- append-digits-requires
+    (λ c. search needs)  -- slice-aggregate-append-2
     append-requires-2
-    append-node-requires
-    slice-aggregate-append-3
+    (λ c κs. search needs)  -- append-node-requires
+    (λ c. search needs)  -- slice-aggregate-append-3
     append-requires-3
-    slice-aggregate-append-4
-    append-requires-4
-    append-age-requires
-    append-write-only-requires
+    (λ c. search needs)  -- slice-aggregate-append-4
+    (λ c κs. search needs)  -- append-requires-4
+    (λ c κs. search needs)  -- append-age-requires
+    (λ c κs. search needs)  -- append-write-only-requires
     append-age-requires-2
     append-place-requires
-    same-length
+    (λ c. search needs)  -- same-length
     returns
-    same-length-2
+    (λ c. search needs)  -- same-length-2
     returns-2
-    same-length-3
+    (λ c. search needs)  -- same-length-3
     returns-3
-    same-length-4
+    (λ c. search needs)  -- same-length-4
     returns-4
-    same-length-5
+    (λ c. search needs)  -- same-length-5
     returns-5
     returns-6
     returns-7)

@@ -19,18 +19,6 @@ use Rattle.details.proofs.append_node.Tie as tie
 the-rule : (c : tie.After-known-told) → Found (c .before .before .before .before .before .before .before .before .args .text .now) (c .before .size .given .0 .0) (c .before .before .before .before .read .last .1 .0)
 the-rule c = read-rule _ _ (search needs) (c .before .before .before .before .read .ensures) (c .before .size .given .1)
 
-slice-aggregate-read : tie.Need-slice-aggregate-read
-slice-aggregate-read c = search needs
-
-read-requires : tie.Need-read-requires
-read-requires c κs = search needs
-
-enum-known-size : tie.Need-enum-known-size
-enum-known-size c = search needs
-
-enum-told : tie.Need-enum-told
-enum-told c = search needs
-
 returns : tie.Need-returns
 unfolding shownAll
 returns c = rw (read-refused _ _ (search needs) (c .before .before .before .read .ensures) (c .enum-told .given .1)) (put-none _ _)
@@ -65,9 +53,6 @@ append-shown-requires c κs =
     rw (c .name-of .ensures)
     (simp length-take (omega (arith, taken-short (the-rule (c .before .before .before .before .before .before .before)), name-in (c .before .before .before) (c .before .before .if2 .taken))))
 
-same-length : tie.Need-same-length
-same-length c = search needs
-
 returns-3 : tie.Need-returns-3
 returns-3 c =
     let d = c .before .before .before .before .before .before in
@@ -84,10 +69,10 @@ pub append-node-spec : {M : Type 1} → statement M
 append-node-spec =
     tie.close
     (tie.spec
-    slice-aggregate-read
-    read-requires
-    enum-known-size
-    enum-told
+    (λ c. search needs)  -- slice-aggregate-read
+    (λ c κs. search needs)  -- read-requires
+    (λ c. search needs)  -- enum-known-size
+    (λ c. search needs)  -- enum-told
     returns
     array-share-prefix-image
     slice-aggregate-written
@@ -96,6 +81,6 @@ append-node-spec =
     node-at-requires
     name-of-requires
     append-shown-requires
-    same-length
+    (λ c. search needs)  -- same-length
     returns-3
     returns-4)

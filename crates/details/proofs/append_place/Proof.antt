@@ -8,18 +8,12 @@ use Rattle.slices.proofs.Laws.SearchLaws.{last-le}
 use Rattle.details.proofs.append_place.Statement.{statement}
 use Rattle.details.proofs.append_place.Tie as tie
 
-behind-last-requires : tie.Need-behind-last-requires
-behind-last-requires c κs = search needs
-
 -- the text's end lies in it
 within-text : (c : tie.After-behind-last) → c .behind-last .result ≤ length (c .before .before .before .args .text .now)
 within-text c = rw (c .behind-last .ensures) (last-le _ _ _)
 
 append-marked-requires : tie.Need-append-marked-requires
 append-marked-requires c κs = omega (arith, within-text (c .before .before))
-
-same-length : tie.Need-same-length
-same-length c = search needs
 
 returns : tie.Need-returns
 returns c =
@@ -29,9 +23,6 @@ returns c =
 append-marked-requires-2 : tie.Need-append-marked-requires-2
 append-marked-requires-2 c κs = omega (arith, within-text (c .before .before))
 
-same-length-2 : tie.Need-same-length-2
-same-length-2 c = search needs
-
 returns-2 : tie.Need-returns-2
 returns-2 c =
     rw (← c .before .before .before .before .before .behind-last .ensures, min-eq-right (c .before .before .before .before .if1 .left)) (c .before .before .append-marked2 .ensures)
@@ -40,10 +31,10 @@ pub append-place-spec : {M : Type 1} → statement M
 append-place-spec =
     tie.close
     (tie.spec
-    behind-last-requires
+    (λ c κs. search needs)  -- behind-last-requires
     append-marked-requires
-    same-length
+    (λ c. search needs)  -- same-length
     returns
     append-marked-requires-2
-    same-length-2
+    (λ c. search needs)  -- same-length-2
     returns-2)

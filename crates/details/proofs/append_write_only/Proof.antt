@@ -19,12 +19,6 @@ abbrev μ-loop : tie.MeasureT-loop
 inside : (c : tie.After-length-at Inv-loop μ-loop) → c .before .before .loop .start + c .length-at .result ≤ length (c .before .before .before .before .before .before .before .args .stores .now)
 inside c = omega (arith, standing-within (c .before .before .loop .inv .stands) (c .before .loop-test .taken) (c .length-at .ensures .0))
 
-count-of-requires : tie.Need-count-of-requires Inv-loop μ-loop
-count-of-requires c κs = search needs
-
-names-start-requires : tie.Need-names-start-requires Inv-loop μ-loop
-names-start-requires c κs = search needs
-
 loop-holds : tie.Need-loop-holds Inv-loop μ-loop
 loop-holds c = rw (c .names-start .ensures) (named-start _ _ _ _ (c .before .before .before .before .pre .0) (c .before .count-of .ensures .0))
 
@@ -37,12 +31,6 @@ mode-at-requires c κs = let h = c .before .before .loop .inv .stands in (h .lai
 add-append-confirmed : tie.Need-add-append-confirmed Inv-loop μ-loop
 add-append-confirmed c = omega (arith, inside (c .before .before .before))
 
-sub-append-confirmed : tie.Need-sub-append-confirmed Inv-loop μ-loop
-sub-append-confirmed c = omega arith
-
-part-append-confirmed-start : tie.Need-part-append-confirmed-start Inv-loop μ-loop
-part-append-confirmed-start c = omega arith
-
 part-append-confirmed-end : tie.Need-part-append-confirmed-end Inv-loop μ-loop
 part-append-confirmed-end c = omega (arith, inside (c .before .before .before))
 
@@ -53,12 +41,6 @@ append-confirmed-requires c κs =
 
 add-start : tie.Need-add-start Inv-loop μ-loop
 add-start c = omega (arith, inside (c .before .before))
-
-add-k : tie.Need-add-k Inv-loop μ-loop
-add-k c = omega arith
-
-loop-less : tie.Need-loop-less Inv-loop μ-loop
-loop-less c = omega arith
 
 loop-again : tie.Need-loop-again Inv-loop μ-loop
 loop-again c =
@@ -83,19 +65,19 @@ append-write-only-spec =
     (tie.spec
     Inv-loop
     μ-loop
-    count-of-requires
-    names-start-requires
+    (λ c κs. search needs)  -- count-of-requires
+    (λ c κs. search needs)  -- names-start-requires
     loop-holds
     length-at-requires
     mode-at-requires
     add-append-confirmed
-    sub-append-confirmed
-    part-append-confirmed-start
+    (λ c. omega arith)  -- sub-append-confirmed
+    (λ c. omega arith)  -- part-append-confirmed-start
     part-append-confirmed-end
     append-confirmed-requires
     add-start
-    add-k
-    loop-less
+    (λ c. omega arith)  -- add-k
+    (λ c. omega arith)  -- loop-less
     loop-again
     same-length
     returns)

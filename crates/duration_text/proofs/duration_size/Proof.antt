@@ -8,36 +8,6 @@ use Rattle.duration_text.proofs.duration_size.Tie as tie
 returns : tie.Need-returns
 returns c = rw (duration-zero _ (c .if1 .taken))
 
-slice-aggregate-part-size : tie.Need-slice-aggregate-part-size
-slice-aggregate-part-size c = search needs
-
-part-size-requires : tie.Need-part-size-requires
-part-size-requires c κs = search needs
-
-slice-aggregate-part-size-2 : tie.Need-slice-aggregate-part-size-2
-slice-aggregate-part-size-2 c = search needs
-
-part-size-requires-2 : tie.Need-part-size-requires-2
-part-size-requires-2 c κs = search needs
-
-slice-aggregate-part-size-3 : tie.Need-slice-aggregate-part-size-3
-slice-aggregate-part-size-3 c = search needs
-
-part-size-requires-3 : tie.Need-part-size-requires-3
-part-size-requires-3 c κs = search needs
-
-slice-aggregate-part-size-4 : tie.Need-slice-aggregate-part-size-4
-slice-aggregate-part-size-4 c = search needs
-
-part-size-requires-4 : tie.Need-part-size-requires-4
-part-size-requires-4 c κs = search needs
-
-slice-aggregate-part-size-5 : tie.Need-slice-aggregate-part-size-5
-slice-aggregate-part-size-5 c = search needs
-
-part-size-requires-5 : tie.Need-part-size-requires-5
-part-size-requires-5 c κs = search needs
-
 returns-2 : tie.Need-returns-2
 returns-2 c = let e = c .before .before .before .before .before .before .before .before .before .before in omega (arith, duration-length (e .before .args .ms) (e .if1 .left))
 
@@ -61,16 +31,16 @@ duration-size-spec =
     tie.close
     (tie.spec
     returns
-    slice-aggregate-part-size
-    part-size-requires
-    slice-aggregate-part-size-2
-    part-size-requires-2
-    slice-aggregate-part-size-3
-    part-size-requires-3
-    slice-aggregate-part-size-4
-    part-size-requires-4
-    slice-aggregate-part-size-5
-    part-size-requires-5
+    (λ c. search needs)  -- slice-aggregate-part-size
+    (λ c κs. search needs)  -- part-size-requires
+    (λ c. search needs)  -- slice-aggregate-part-size-2
+    (λ c κs. search needs)  -- part-size-requires-2
+    (λ c. search needs)  -- slice-aggregate-part-size-3
+    (λ c κs. search needs)  -- part-size-requires-3
+    (λ c. search needs)  -- slice-aggregate-part-size-4
+    (λ c κs. search needs)  -- part-size-requires-4
+    (λ c. search needs)  -- slice-aggregate-part-size-5
+    (λ c κs. search needs)  -- part-size-requires-5
     add-result
     add-result-2
     add-result-3

@@ -6,61 +6,37 @@ use Rattle.duration_text.proofs.Laws.DurationTextLaws.{duration-zero, d
 use Rattle.duration_text.proofs.format_duration.Statement.{statement}
 use Rattle.duration_text.proofs.format_duration.Tie as tie
 
-slice-aggregate-put : tie.Need-slice-aggregate-put
-slice-aggregate-put c = search needs
-
 put-requires : tie.Need-put-requires
 put-requires c κs =
     let s = c .before .before .before .before in
     rw (duration-zero (s .args .ms) (c .before .before .if1 .taken)) at (s .pre)
 
-same-length : tie.Need-same-length
-same-length c = search needs
-
 returns : tie.Need-returns
 returns c = rw (duration-zero _ (c .before .before .before .before .before .if1 .taken)) (c .before .before .put .ensures)
-
-slice-aggregate-put-part : tie.Need-slice-aggregate-put-part
-slice-aggregate-put-part c = search needs
 
 -- of a duration that is not zero: its text is as long as its parts, which are put one before the other
 put-part-requires : tie.Need-put-part-requires
 put-part-requires c κs = let e = c .before .before in omega (arith, duration-length (e .before .before .args .ms) (e .if1 .left))
-
-slice-aggregate-put-part-2 : tie.Need-slice-aggregate-put-part-2
-slice-aggregate-put-part-2 c = search needs
 
 put-part-requires-2 : tie.Need-put-part-requires-2
 put-part-requires-2 c κs =
     let e = c .before .before .before .before .before .before .before in
     omega (arith, duration-length (e .before .before .args .ms) (e .if1 .left))
 
-slice-aggregate-put-part-3 : tie.Need-slice-aggregate-put-part-3
-slice-aggregate-put-part-3 c = search needs
-
 put-part-requires-3 : tie.Need-put-part-requires-3
 put-part-requires-3 c κs =
     let e = c .before .before .before .before .before .before .before .before .before .before .before .before in
     omega (arith, duration-length (e .before .before .args .ms) (e .if1 .left))
-
-slice-aggregate-put-part-4 : tie.Need-slice-aggregate-put-part-4
-slice-aggregate-put-part-4 c = search needs
 
 put-part-requires-4 : tie.Need-put-part-requires-4
 put-part-requires-4 c κs =
     let e = c .before .before .before .before .before .before .before .before .before .before .before .before .before .before .before .before .before in
     omega (arith, duration-length (e .before .before .args .ms) (e .if1 .left))
 
-slice-aggregate-put-part-5 : tie.Need-slice-aggregate-put-part-5
-slice-aggregate-put-part-5 c = search needs
-
 put-part-requires-5 : tie.Need-put-part-requires-5
 put-part-requires-5 c κs =
     let e = c .before .before .before .before .before .before .before .before .before .before .before .before .before .before .before .before .before .before .before .before .before .before in
     omega (arith, duration-length (e .before .before .args .ms) (e .if1 .left))
-
-same-length-2 : tie.Need-same-length-2
-same-length-2 c = search needs
 
 returns-2 : tie.Need-returns-2
 returns-2 c =
@@ -78,19 +54,19 @@ pub format-duration-spec : {M : Type 1} → statement M
 format-duration-spec =
     tie.close
     (tie.spec
-    slice-aggregate-put
+    (λ c. search needs)  -- slice-aggregate-put
     put-requires
-    same-length
+    (λ c. search needs)  -- same-length
     returns
-    slice-aggregate-put-part
+    (λ c. search needs)  -- slice-aggregate-put-part
     put-part-requires
-    slice-aggregate-put-part-2
+    (λ c. search needs)  -- slice-aggregate-put-part-2
     put-part-requires-2
-    slice-aggregate-put-part-3
+    (λ c. search needs)  -- slice-aggregate-put-part-3
     put-part-requires-3
-    slice-aggregate-put-part-4
+    (λ c. search needs)  -- slice-aggregate-put-part-4
     put-part-requires-4
-    slice-aggregate-put-part-5
+    (λ c. search needs)  -- slice-aggregate-put-part-5
     put-part-requires-5
-    same-length-2
+    (λ c. search needs)  -- same-length-2
     returns-2)

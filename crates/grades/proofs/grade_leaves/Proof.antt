@@ -29,9 +29,6 @@ loop-holds : tie.Need-loop-holds Inv-loop μ-loop
 unfolding unknownUpTo
 loop-holds c = (omega arith, refl, refl, λ j lt. absurd (omega arith))
 
-node-at-requires : tie.Need-node-at-requires Inv-loop μ-loop
-node-at-requires c κs = search needs
-
 name-of-requires : tie.Need-name-of-requires Inv-loop μ-loop
 name-of-requires c κs =
     let s = c .before .before .before .before .before .before .before in
@@ -41,15 +38,6 @@ find-requires : tie.Need-find-requires Inv-loop μ-loop
 find-requires c κs =
     let s = c .before .before .before .before .before .before .before .before in
     (well-made-laid _ _ (s .pre .1 .1 .0 .table), s .pre .1 .1 .1)
-
-enum-known-k : tie.Need-enum-known-k Inv-loop μ-loop
-enum-known-k c = search needs
-
-enum-told : tie.Need-enum-told Inv-loop μ-loop
-enum-told c = search needs
-
-same-length : tie.Need-same-length Inv-loop μ-loop
-same-length c = search needs
 
 returns : tie.Need-returns Inv-loop μ-loop
 returns c =
@@ -64,24 +52,6 @@ mode-at-requires : tie.Need-mode-at-requires Inv-loop μ-loop
 mode-at-requires c κs =
     let s = c .before .before .before .before .before .before .before .before .before .before .before .before in
     (well-made-laid _ _ (s .pre .1 .1 .0 .table), found-at _ _ (s .pre .1 .1 .0 .table) (c .before .before .before .find .ensures) (c .before .k .given .1) .below)
-
-name-grade-requires : tie.Need-name-grade-requires Inv-loop μ-loop
-name-grade-requires c κs = search needs
-
-slice-write-grades : tie.Need-slice-write-grades Inv-loop μ-loop
-slice-write-grades c = omega arith
-
-test-grade-requires : tie.Need-test-grade-requires Inv-loop μ-loop
-test-grade-requires c κs = search needs
-
-slice-write-grades-2 : tie.Need-slice-write-grades-2 Inv-loop μ-loop
-slice-write-grades-2 c = omega arith
-
-add-i : tie.Need-add-i Inv-loop μ-loop
-add-i c = omega arith
-
-loop-less : tie.Need-loop-less Inv-loop μ-loop
-loop-less c = omega arith
 
 loop-again : tie.Need-loop-again Inv-loop μ-loop
 loop-again c =
@@ -105,9 +75,6 @@ loop-again c =
     ))
     (c .if1 .came)
 
-same-length-2 : tie.Need-same-length-2 Inv-loop μ-loop
-same-length-2 c = search needs
-
 returns-2 : tie.Need-returns-2 Inv-loop μ-loop
 returns-2 c =
     let l = c .before .loop in (
@@ -122,20 +89,20 @@ grade-leaves-spec =
     Inv-loop
     μ-loop
     loop-holds
-    node-at-requires
+    (λ c κs. search needs)  -- node-at-requires
     name-of-requires
     find-requires
-    enum-known-k
-    enum-told
-    same-length
+    (λ c. search needs)  -- enum-known-k
+    (λ c. search needs)  -- enum-told
+    (λ c. search needs)  -- same-length
     returns
     mode-at-requires
-    name-grade-requires
-    slice-write-grades
-    test-grade-requires
-    slice-write-grades-2
-    add-i
-    loop-less
+    (λ c κs. search needs)  -- name-grade-requires
+    (λ c. omega arith)  -- slice-write-grades
+    (λ c κs. search needs)  -- test-grade-requires
+    (λ c. omega arith)  -- slice-write-grades-2
+    (λ c. omega arith)  -- add-i
+    (λ c. omega arith)  -- loop-less
     loop-again
-    same-length-2
+    (λ c. search needs)  -- same-length-2
     returns-2)

@@ -9,23 +9,11 @@ use borrow.Author.Needs.{needs}
 use Rattle.heads.proofs.head_at.Statement.{statement}
 use Rattle.heads.proofs.head_at.Tie as tie
 
-token-at-requires : tie.Need-token-at-requires
-token-at-requires c κs = search needs
-
-enum-known-t : tie.Need-enum-known-t
-enum-known-t c = search needs
-
 word-head-requires : tie.Need-word-head-requires
 word-head-requires c κs =
     let t = c .before in
     let w = word-part _ _ (sym (t .before .before .token-at .ensures) ∙ t .t .given .1) in
     omega arith
-
-enum-known-t-2 : tie.Need-enum-known-t-2
-enum-known-t-2 c = search needs
-
-refuse-requires : tie.Need-refuse-requires
-refuse-requires c κs = search needs
 
 returns : tie.Need-returns
 unfolding nextOf
@@ -33,12 +21,6 @@ returns c =
     let t = c .before .before .before in
     begins-refused (c .refuse .ensures) refl
     (rw (head-next _ _ _ (sym (t .before .before .token-at .ensures) ∙ t .t2 .given .1) refl, too-deep (c .before .if1 .taken) (omega arith)))
-
-place-of-requires : tie.Need-place-of-requires
-place-of-requires c κs = search needs
-
-refuse-requires-2 : tie.Need-refuse-requires-2
-refuse-requires-2 c κs = search needs
 
 returns-2 : tie.Need-returns-2
 unfolding nextOf
@@ -66,14 +48,14 @@ pub head-at-spec : {M : Type 1} → statement M
 head-at-spec =
     tie.close
     (tie.spec
-    token-at-requires
-    enum-known-t
+    (λ c κs. search needs)  -- token-at-requires
+    (λ c. search needs)  -- enum-known-t
     word-head-requires
-    enum-known-t-2
-    refuse-requires
+    (λ c. search needs)  -- enum-known-t-2
+    (λ c κs. search needs)  -- refuse-requires
     returns
-    place-of-requires
-    refuse-requires-2
+    (λ c κs. search needs)  -- place-of-requires
+    (λ c κs. search needs)  -- refuse-requires-2
     returns-2
     returns-3
     returns-4)

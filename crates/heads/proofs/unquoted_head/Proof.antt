@@ -17,24 +17,6 @@ use Rattle.heads.proofs.unquoted_head.Tie as tie
 abbrev is-readable : List ℕ → Bool
 is-readable w = equalIgnoringCase w (bytes "readable")
 
-word-of-requires : tie.Need-word-of-requires
-word-of-requires c κs = search needs
-
-bracket-at-requires : tie.Need-bracket-at-requires
-bracket-at-requires c κs = search needs
-
-enum-known-inside : tie.Need-enum-known-inside
-enum-known-inside c = search needs
-
-enum-told : tie.Need-enum-told
-enum-told c = search needs
-
-slice-aggregate-eq-ignore-ascii-case : tie.Need-slice-aggregate-eq-ignore-ascii-case
-slice-aggregate-eq-ignore-ascii-case c = search needs
-
-eq-ignore-ascii-case-requires : tie.Need-eq-ignore-ascii-case-requires
-eq-ignore-ascii-case-requires c κs = search needs
-
 returns : tie.Need-returns
 unfolding bareLeaf
 returns c =
@@ -66,9 +48,6 @@ sub-refuse c =
     let inside = (test-on _ _ openSign (i .before .before .bracket-at .ensures) (i .inside .given .1)) .bounds in
     omega arith
 
-refuse-requires : tie.Need-refuse-requires
-refuse-requires c κs = search needs
-
 returns-3 : tie.Need-returns-3
 returns-3 c =
     let i = c .before .before .before in
@@ -79,9 +58,6 @@ returns-3 c =
       too-deep (c .before .if2 .taken) (omega arith),
       test-place _ _ openSign (b .bracket-at .ensures) (i .inside .given .1) (omega arith),
     ))
-
-function-of-requires : tie.Need-function-of-requires
-function-of-requires c κs = search needs
 
 call-head-requires : tie.Need-call-head-requires
 call-head-requires c κs =
@@ -103,17 +79,17 @@ pub unquoted-head-spec : {M : Type 1} → statement M
 unquoted-head-spec =
     tie.close
     (tie.spec
-    word-of-requires
-    bracket-at-requires
-    enum-known-inside
-    enum-told
-    slice-aggregate-eq-ignore-ascii-case
-    eq-ignore-ascii-case-requires
+    (λ c κs. search needs)  -- word-of-requires
+    (λ c κs. search needs)  -- bracket-at-requires
+    (λ c. search needs)  -- enum-known-inside
+    (λ c. search needs)  -- enum-told
+    (λ c. search needs)  -- slice-aggregate-eq-ignore-ascii-case
+    (λ c κs. search needs)  -- eq-ignore-ascii-case-requires
     returns
     returns-2
     sub-refuse
-    refuse-requires
+    (λ c κs. search needs)  -- refuse-requires
     returns-3
-    function-of-requires
+    (λ c κs. search needs)  -- function-of-requires
     call-head-requires
     returns-4)

@@ -15,14 +15,8 @@ abbrev μ-loop : tie.MeasureT-loop
 loop-holds : tie.Need-loop-holds Inv-loop μ-loop
 loop-holds c = (omega arith, omega arith, left-all _ _ _ (c .before .pre .0 .ready))
 
-sub-node-at : tie.Need-sub-node-at Inv-loop μ-loop
-sub-node-at c = omega arith
-
 node-at-requires : tie.Need-node-at-requires Inv-loop μ-loop
 node-at-requires c κs = omega (arith, c .before .before .before .pre .0 .within)
-
-sub-if1 : tie.Need-sub-if1 Inv-loop μ-loop
-sub-if1 c = omega arith
 
 returns : tie.Need-returns Inv-loop μ-loop
 returns c =
@@ -52,9 +46,9 @@ children-fit-spec =
     Inv-loop
     μ-loop
     loop-holds
-    sub-node-at
+    (λ c. omega arith)  -- sub-node-at
     node-at-requires
-    sub-if1
+    (λ c. omega arith)  -- sub-if1
     returns
     sub-at
     loop-less

@@ -13,12 +13,6 @@ use Rattle.image_test.proofs.is_image.Tie as tie
 returns : tie.Need-returns
 returns c = not-sized _ _ _ refl refl (omega arith)
 
-node-count-requires : tie.Need-node-count-requires
-node-count-requires c κs = search needs
-
-name-byte-count-requires : tie.Need-name-byte-count-requires
-name-byte-count-requires c κs = search needs
-
 returns-2 : tie.Need-returns-2
 returns-2 c = not-sized _ _ _ (c .before .before .node-count .ensures .0) (c .before .name-byte-count .ensures .0) (omega arith)
 
@@ -27,12 +21,6 @@ returns-3 c = not-sized _ _ _ (c .before .before .before .node-count .ensures .0
 
 returns-4 : tie.Need-returns-4
 returns-4 c = not-sized _ _ _ (c .before .before .before .before .node-count .ensures .0) (c .before .before .before .name-byte-count .ensures .0) (omega arith)
-
-names-start-requires : tie.Need-names-start-requires
-names-start-requires c κs = search needs
-
-add-if5 : tie.Need-add-if5
-add-if5 c = search needs
 
 returns-5 : tie.Need-returns-5
 returns-5 c = not-sized _ _ _ (c .before .before .before .before .before .before .node-count .ensures .0) (c .before .before .before .before .before .name-byte-count .ensures .0) (omega arith)
@@ -46,9 +34,6 @@ the-head c =
       lengths = true-sized _ _ _ (omega arith) (omega arith) (omega arith) (omega arith);
     }
 
-ascii-from-requires : tie.Need-ascii-from-requires
-ascii-from-requires c κs = search needs
-
 -- the answer is that of the bytes from where the names begin
 the-ascii : (c : tie.After-ascii-from) → allAscii (drop (namesStart (c .before .before .before .before .before .before .before .node-count .result)) (c .before .before .before .before .before .before .before .before .before .before .args .image .now)) ≡ c .ascii-from .result
 the-ascii c = rw (← c .before .before .names-start .ensures) (sym (c .ascii-from .ensures))
@@ -57,15 +42,9 @@ returns-6 : tie.Need-returns-6
 returns-6 c =
     not-ascii (the-head (c .before .before)) (the-ascii (c .before) ∙ not-true _ (c .if6 .taken))
 
-names-run-requires : tie.Need-names-run-requires
-names-run-requires c κs = search needs
-
 returns-7 : tie.Need-returns-7
 returns-7 c =
     not-named (the-head (c .before .before .before .before)) (the-ascii (c .before .before .before) ∙ not-false _ (c .before .before .if6 .left)) (sym (c .before .names-run .ensures) ∙ not-true _ (c .if7 .taken))
-
-nodes-fit-requires : tie.Need-nodes-fit-requires
-nodes-fit-requires c κs = search needs
 
 returns-8 : tie.Need-returns-8
 returns-8 c =
@@ -76,17 +55,17 @@ is-image-spec =
     tie.close
     (tie.spec
     returns
-    node-count-requires
-    name-byte-count-requires
+    (λ c κs. search needs)  -- node-count-requires
+    (λ c κs. search needs)  -- name-byte-count-requires
     returns-2
     returns-3
     returns-4
-    names-start-requires
-    add-if5
+    (λ c κs. search needs)  -- names-start-requires
+    (λ c. search needs)  -- add-if5
     returns-5
-    ascii-from-requires
+    (λ c κs. search needs)  -- ascii-from-requires
     returns-6
-    names-run-requires
+    (λ c κs. search needs)  -- names-run-requires
     returns-7
-    nodes-fit-requires
+    (λ c κs. search needs)  -- nodes-fit-requires
     returns-8)

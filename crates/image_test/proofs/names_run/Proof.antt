@@ -21,21 +21,9 @@ loop-holds : tie.Need-loop-holds Inv-loop μ-loop
 unfolding nameEnd
 loop-holds c = (omega arith, omega arith, refl)
 
-node-at-requires : tie.Need-node-at-requires Inv-loop μ-loop
-node-at-requires c κs = omega arith
-
 returns : tie.Need-returns Inv-loop μ-loop
 returns c =
     name-stop _ _ _ (c .before .before .node-at .ensures) (c .before .before .before .before .loop .inv .2) (omega arith) (omega arith) _ _ (omega arith)
-
-add-end : tie.Need-add-end Inv-loop μ-loop
-add-end c = omega arith
-
-add-i : tie.Need-add-i Inv-loop μ-loop
-add-i c = omega arith
-
-loop-less : tie.Need-loop-less Inv-loop μ-loop
-loop-less c = omega arith
 
 loop-again : tie.Need-loop-again Inv-loop μ-loop
 loop-again c =
@@ -63,10 +51,10 @@ names-run-spec =
     Inv-loop
     μ-loop
     loop-holds
-    node-at-requires
+    (λ c κs. omega arith)  -- node-at-requires
     returns
-    add-end
-    add-i
-    loop-less
+    (λ c. omega arith)  -- add-end
+    (λ c. omega arith)  -- add-i
+    (λ c. omega arith)  -- loop-less
     loop-again
     returns-2)

@@ -9,12 +9,6 @@ use Rattle.image.proofs.Laws.FitLaws.{Joins, fits-leaf, fits-unknown, fits-bad-
 use Rattle.image_test.proofs.node_fits.Statement.{statement}
 use Rattle.image_test.proofs.node_fits.Tie as tie
 
-node-at-requires : tie.Need-node-at-requires
-node-at-requires c κs = search needs
-
-is-leaf-requires : tie.Need-is-leaf-requires
-is-leaf-requires c κs = search needs
-
 returns : tie.Need-returns
 returns c =
     let d = c .before .before in
@@ -36,22 +30,10 @@ returns-3 c =
     let d = c .before .before .before .before .before .before in
     fits-bad-size _ _ _ (d .node-at .ensures) (d .before .before .pre .0 .ready) (the-join (c .before)) (omega arith)
 
-add-if7 : tie.Need-add-if7
-add-if7 c = search needs
-
 returns-4 : tie.Need-returns-4
 returns-4 c =
     let d = c .before .before .before .before .before .before .before in
     fits-bad-size _ _ _ (d .node-at .ensures) (d .before .before .pre .0 .ready) (the-join (c .before .before)) (omega arith)
-
-add-children-fit : tie.Need-add-children-fit
-add-children-fit c = search needs
-
-sub-children-fit : tie.Need-sub-children-fit
-sub-children-fit c = search needs
-
-children-fit-requires : tie.Need-children-fit-requires
-children-fit-requires c κs = search needs
 
 returns-5 : tie.Need-returns-5
 returns-5 c =
@@ -74,16 +56,16 @@ pub node-fits-spec : {M : Type 1} → statement M
 node-fits-spec =
     tie.close
     (tie.spec
-    node-at-requires
-    is-leaf-requires
+    (λ c κs. search needs)  -- node-at-requires
+    (λ c κs. search needs)  -- is-leaf-requires
     returns
     returns-2
     returns-3
-    add-if7
+    (λ c. search needs)  -- add-if7
     returns-4
-    add-children-fit
-    sub-children-fit
-    children-fit-requires
+    (λ c. search needs)  -- add-children-fit
+    (λ c. search needs)  -- sub-children-fit
+    (λ c κs. search needs)  -- children-fit-requires
     returns-5
     returns-6
     returns-7)

@@ -27,20 +27,8 @@ node-fits-requires c κs = (record { long = c .before .before .before .pre .0; w
 returns : tie.Need-returns Inv-loop μ-loop
 returns c = fits-stop _ _ _ (omega arith) (sym (c .before .node-fits .ensures) ∙ not-true _ (c .if1 .taken))
 
-add-i : tie.Need-add-i Inv-loop μ-loop
-add-i c = omega arith
-
-loop-less : tie.Need-loop-less Inv-loop μ-loop
-loop-less c = omega arith
-
 loop-again : tie.Need-loop-again Inv-loop μ-loop
 loop-again c = (omega arith, rw add-one (sym (c .before .node-fits .ensures) ∙ not-false _ (c .if1 .left)))
-
-sub-node-at : tie.Need-sub-node-at Inv-loop μ-loop
-sub-node-at c = omega arith
-
-node-at-requires : tie.Need-node-at-requires Inv-loop μ-loop
-node-at-requires c κs = omega arith
 
 returns-2 : tie.Need-returns-2 Inv-loop μ-loop
 returns-2 c =
@@ -58,9 +46,9 @@ nodes-fit-spec =
     loop-holds
     node-fits-requires
     returns
-    add-i
-    loop-less
+    (λ c. omega arith)  -- add-i
+    (λ c. omega arith)  -- loop-less
     loop-again
-    sub-node-at
-    node-at-requires
+    (λ c. omega arith)  -- sub-node-at
+    (λ c κs. omega arith)  -- node-at-requires
     returns-2)

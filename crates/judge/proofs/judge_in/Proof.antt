@@ -17,12 +17,6 @@ use Rattle.judge.proofs.judge_in.Tie as tie
 the-image : (c : tie.After-known-told) → (let n = c .before .size .given .0 .0 in let i = c .before .before .before .before .before .read-fitting .last .1 .0 in (n ≤ length i) × (isSome (decode (take n i)) ≡ true))
 the-image c = written-image _ _ (c .before .before .before .before .before .read-fitting .ensures) (c .before .size .given .1)
 
-read-fitting-requires : tie.Need-read-fitting-requires
-read-fitting-requires c κs = search needs
-
-enum-known-size : tie.Need-enum-known-size
-enum-known-size c = search needs
-
 slice-reshare-prefix-written : tie.Need-slice-reshare-prefix-written
 slice-reshare-prefix-written c = the-image c .0
 
@@ -35,19 +29,10 @@ node-count-requires c κs = omega (arith, image-inside _ (the-image (c .before) 
 check-rule-requires : tie.Need-check-rule-requires
 check-rule-requires c κs = let i = the-image (c .before .before) .1 in (image-inside _ i (c .node-count .ensures .0), image-few _ i (c .node-count .ensures .0))
 
-enum-known-f : tie.Need-enum-known-f
-enum-known-f c = search needs
-
-same-length : tie.Need-same-length
-same-length c = search needs
-
 returns : tie.Need-returns
 returns c =
     checks-image _ (the-image (c .before .before .before) .1) (c .before .node-count .ensures .0) _ (c .check-rule .ensures)
     ∙ judges _ _ _ (c .before .before .before .before .before .before .before .before .read-fitting .ensures) (c .before .before .before .before .size .given .1)
-
-same-length-2 : tie.Need-same-length-2
-same-length-2 c = search needs
 
 returns-2 : tie.Need-returns-2
 returns-2 c = judges _ _ _ (c .before .before .before .before .before .read-fitting .ensures) (c .before .f .given .1)
@@ -56,14 +41,14 @@ pub judge-in-spec : {M : Type 1} → statement M
 judge-in-spec =
     tie.close
     (tie.spec
-    read-fitting-requires
-    enum-known-size
+    (λ c κs. search needs)  -- read-fitting-requires
+    (λ c. search needs)  -- enum-known-size
     slice-reshare-prefix-written
     slice-aggregate-written
     node-count-requires
     check-rule-requires
-    enum-known-f
-    same-length
+    (λ c. search needs)  -- enum-known-f
+    (λ c. search needs)  -- same-length
     returns
-    same-length-2
+    (λ c. search needs)  -- same-length-2
     returns-2)

@@ -25,9 +25,6 @@ loop-holds c = (omega arith, refl, λ j lt l e. absurd (omega arith))
 node-at-requires : tie.Need-node-at-requires Inv-loop μ-loop
 node-at-requires c κs = (c .before .before .before .before .before .before .pre .0 .long, c .loop-test .taken)
 
-is-leaf-requires : tie.Need-is-leaf-requires Inv-loop μ-loop
-is-leaf-requires c κs = search needs
-
 leaf-says-requires : tie.Need-leaf-says-requires Inv-loop μ-loop
 leaf-says-requires c κs =
     let s = c .before .before .before .before .before .before .before .before .before in
@@ -42,9 +39,6 @@ slice-write-says c = the-room (c .before .before .before .before .before)
 
 slice-write-says-2 : tie.Need-slice-write-says-2 Inv-loop μ-loop
 slice-write-says-2 c = the-room (c .before .before .before .before .before)
-
-add-i : tie.Need-add-i Inv-loop μ-loop
-add-i c = search needs
 
 loop-less : tie.Need-loop-less Inv-loop μ-loop
 loop-less c = omega (arith, c .before .before .before .loop-test .taken)
@@ -74,11 +68,11 @@ say-leaves-spec =
     μ-loop
     loop-holds
     node-at-requires
-    is-leaf-requires
+    (λ c κs. search needs)  -- is-leaf-requires
     leaf-says-requires
     slice-write-says
     slice-write-says-2
-    add-i
+    (λ c. search needs)  -- add-i
     loop-less
     loop-again
     same-length

@@ -11,12 +11,6 @@ use Rattle.lines.proofs.Laws.LinesLaws.{LineOf, line-of}
 use Rattle.lines.proofs.append_marked.Statement.{statement}
 use Rattle.lines.proofs.append_marked.Tie as tie
 
-behind-last-requires : tie.Need-behind-last-requires
-behind-last-requires c κs = search needs
-
-mark-at-requires : tie.Need-mark-at-requires
-mark-at-requires c κs = search needs
-
 the-line : (c : tie.After-mark-at) → LineOf (c .before .before .before .before .args .rule .now) (c .before .before .before .before .args .place) (c .before .behind-last .result) (c .mark-at .result)
 the-line c = line-of (c .before .before .before .before .pre .0) (c .before .behind-last .ensures) (c .mark-at .ensures)
 
@@ -32,9 +26,6 @@ part-append-shown-end c = omega (arith, the-line (c .before))
 append-shown-requires : tie.Need-append-shown-requires
 append-shown-requires c κs = omega (arith, the-line (c .before .before))
 
-slice-aggregate-append : tie.Need-slice-aggregate-append
-slice-aggregate-append c = search needs
-
 append-requires : tie.Need-append-requires
 append-requires c κs = omega (arith, the-line (c .before .before .before .before .before .before .before))
 
@@ -44,14 +35,8 @@ sub-append-blanks c = omega (arith, the-line (c .before .before .before .before 
 append-blanks-requires : tie.Need-append-blanks-requires
 append-blanks-requires c κs = omega (arith, the-line (c .before .before .before .before .before .before .before .before .before .before .before))
 
-slice-aggregate-append-2 : tie.Need-slice-aggregate-append-2
-slice-aggregate-append-2 c = search needs
-
 append-requires-2 : tie.Need-append-requires-2
 append-requires-2 c κs = omega (arith, the-line (c .before .before .before .before .before .before .before .before .before .before .before .before .before .before .before .before), simp length-replicate at (c .before .before .before .before .append-blanks .ensures .ends))
-
-same-length : tie.Need-same-length
-same-length c = search needs
 
 returns : tie.Need-returns
 unfolding part markedLine
@@ -69,17 +54,17 @@ pub append-marked-spec : {M : Type 1} → statement M
 append-marked-spec =
     tie.close
     (tie.spec
-    behind-last-requires
-    mark-at-requires
+    (λ c κs. search needs)  -- behind-last-requires
+    (λ c κs. search needs)  -- mark-at-requires
     sub-append-shown
     part-append-shown-start
     part-append-shown-end
     append-shown-requires
-    slice-aggregate-append
+    (λ c. search needs)  -- slice-aggregate-append
     append-requires
     sub-append-blanks
     append-blanks-requires
-    slice-aggregate-append-2
+    (λ c. search needs)  -- slice-aggregate-append-2
     append-requires-2
-    same-length
+    (λ c. search needs)  -- same-length
     returns)

@@ -11,9 +11,6 @@ use Rattle.lines.proofs.Laws.LinesLaws.{trimmed-length}
 use Rattle.lines.proofs.append_meaning.Statement.{statement}
 use Rattle.lines.proofs.append_meaning.Tie as tie
 
-row-of-requires : tie.Need-row-of-requires
-row-of-requires c κs = search needs
-
 row-fits : (c : tie.After-row-of) →
     let r = c .row-of .result in
     (length (r .word) ≡ 18) × (length (trimmed (r .word)) ≤ 18) × (length (r .meaning) ≡ 64) × (length (trimmed (r .meaning)) ≤ 64)
@@ -23,32 +20,17 @@ row-fits c =
     let m : length (r .meaning) ≡ 64 = search needs in
     (w, omega (arith, trimmed-length (r .word)), m, omega (arith, trimmed-length (r .meaning)))
 
-slice-aggregate-append-trimmed : tie.Need-slice-aggregate-append-trimmed
-slice-aggregate-append-trimmed c = search needs
-
 append-trimmed-requires : tie.Need-append-trimmed-requires
 append-trimmed-requires c κs = omega (arith, row-fits (c .before .before .before .before))
-
-slice-aggregate-append : tie.Need-slice-aggregate-append
-slice-aggregate-append c = search needs
 
 append-requires : tie.Need-append-requires
 append-requires c κs = omega (arith, row-fits (c .before .before .before .before .before .before .before .before .before))
 
-slice-aggregate-append-trimmed-2 : tie.Need-slice-aggregate-append-trimmed-2
-slice-aggregate-append-trimmed-2 c = search needs
-
 append-trimmed-requires-2 : tie.Need-append-trimmed-requires-2
 append-trimmed-requires-2 c κs = omega (arith, row-fits (c .before .before .before .before .before .before .before .before .before .before .before .before .before .before))
 
-slice-aggregate-append-2 : tie.Need-slice-aggregate-append-2
-slice-aggregate-append-2 c = search needs
-
 append-requires-2 : tie.Need-append-requires-2
 append-requires-2 c κs = omega (arith, row-fits (c .before .before .before .before .before .before .before .before .before .before .before .before .before .before .before .before .before .before .before))
-
-same-length : tie.Need-same-length
-same-length c = search needs
 
 returns : tie.Need-returns
 returns c =
@@ -65,14 +47,14 @@ pub append-meaning-spec : {M : Type 1} → statement M
 append-meaning-spec =
     tie.close
     (tie.spec
-    row-of-requires
-    slice-aggregate-append-trimmed
+    (λ c κs. search needs)  -- row-of-requires
+    (λ c. search needs)  -- slice-aggregate-append-trimmed
     append-trimmed-requires
-    slice-aggregate-append
+    (λ c. search needs)  -- slice-aggregate-append
     append-requires
-    slice-aggregate-append-trimmed-2
+    (λ c. search needs)  -- slice-aggregate-append-trimmed-2
     append-trimmed-requires-2
-    slice-aggregate-append-2
+    (λ c. search needs)  -- slice-aggregate-append-2
     append-requires-2
-    same-length
+    (λ c. search needs)  -- same-length
     returns)

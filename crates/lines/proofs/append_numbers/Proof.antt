@@ -9,31 +9,16 @@ use Rattle.decimal.proofs.Laws.DigitsLaws.{digits-short}
 use Rattle.lines.proofs.append_numbers.Statement.{statement}
 use Rattle.lines.proofs.append_numbers.Tie as tie
 
-append-requires : tie.Need-append-requires
-append-requires c κs = search needs
-
-append-digits-requires : tie.Need-append-digits-requires
-append-digits-requires c κs = search needs
-
-slice-aggregate-append : tie.Need-slice-aggregate-append
-slice-aggregate-append c = search needs
-
 append-requires-2 : tie.Need-append-requires-2
 append-requires-2 c κs = omega (arith, digits-short (c .before .before .before .before .before .before .before .before .before .before .before .before .args .a))
 
 append-digits-requires-2 : tie.Need-append-digits-requires-2
 append-digits-requires-2 c κs = omega (arith, digits-short (c .before .before .before .before .before .before .before .before .before .before .before .before .before .before .before .before .args .a))
 
-slice-aggregate-append-2 : tie.Need-slice-aggregate-append-2
-slice-aggregate-append-2 c = search needs
-
 append-requires-3 : tie.Need-append-requires-3
 append-requires-3 c κs =
     let a = c .before .before .before .before .before .before .before .before .before .before .before .before .before .before .before .before .before .before .before .before .before .args in
     omega (arith, digits-short (a .a), digits-short (a .b))
-
-same-length : tie.Need-same-length
-same-length c = search needs
 
 returns : tie.Need-returns
 returns c =
@@ -50,12 +35,12 @@ pub append-numbers-spec : {M : Type 1} → statement M
 append-numbers-spec =
     tie.close
     (tie.spec
-    append-requires
-    append-digits-requires
-    slice-aggregate-append
+    (λ c κs. search needs)  -- append-requires
+    (λ c κs. search needs)  -- append-digits-requires
+    (λ c. search needs)  -- slice-aggregate-append
     append-requires-2
     append-digits-requires-2
-    slice-aggregate-append-2
+    (λ c. search needs)  -- slice-aggregate-append-2
     append-requires-3
-    same-length
+    (λ c. search needs)  -- same-length
     returns)

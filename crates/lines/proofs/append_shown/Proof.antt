@@ -21,35 +21,11 @@ abbrev μ-loop : tie.MeasureT-loop
 loop-holds : tie.Need-loop-holds Inv-loop μ-loop
 loop-holds c = (omega arith, refl, written-none _ _)
 
-shared-slice-read-shown-byte : tie.Need-shared-slice-read-shown-byte Inv-loop μ-loop
-shared-slice-read-shown-byte c = omega arith
-
-shown-byte-requires : tie.Need-shown-byte-requires Inv-loop μ-loop
-shown-byte-requires c κs = search needs
-
-add-text : tie.Need-add-text Inv-loop μ-loop
-add-text c = omega arith
-
-slice-write-text : tie.Need-slice-write-text Inv-loop μ-loop
-slice-write-text c = omega arith
-
-add-i : tie.Need-add-i Inv-loop μ-loop
-add-i c = omega arith
-
-loop-less : tie.Need-loop-less Inv-loop μ-loop
-loop-less c = omega arith
-
 loop-again : tie.Need-loop-again Inv-loop μ-loop
 loop-again c =
     let l = c .before .before .before .loop in
     let piece = c .before .before .before .before .before .before .args .piece .now in
     (omega arith, search needs, rw (c .shown-byte .ensures, ← shown-at piece (l .i) (omega arith)) (copied-on _ _ (omega arith) _ (l .i) (omega (arith, shown-length piece)) (l .inv .2) (omega arith)))
-
-add-result : tie.Need-add-result Inv-loop μ-loop
-add-result c = omega arith
-
-same-length : tie.Need-same-length Inv-loop μ-loop
-same-length c = search needs
 
 returns : tie.Need-returns Inv-loop μ-loop
 returns c =
@@ -64,13 +40,13 @@ append-shown-spec =
     Inv-loop
     μ-loop
     loop-holds
-    shared-slice-read-shown-byte
-    shown-byte-requires
-    add-text
-    slice-write-text
-    add-i
-    loop-less
+    (λ c. omega arith)  -- shared-slice-read-shown-byte
+    (λ c κs. search needs)  -- shown-byte-requires
+    (λ c. omega arith)  -- add-text
+    (λ c. omega arith)  -- slice-write-text
+    (λ c. omega arith)  -- add-i
+    (λ c. omega arith)  -- loop-less
     loop-again
-    add-result
-    same-length
+    (λ c. omega arith)  -- add-result
+    (λ c. search needs)  -- same-length
     returns)

@@ -26,31 +26,16 @@ inside c =
     let b = c .before .before .before in
     omega (arith, standing-within (begins b) (omega (arith, below b)) (c .length-at .ensures .0))
 
-element-copy-out-wide : tie.Need-element-copy-out-wide
-element-copy-out-wide c = search needs
-
-wide-requires : tie.Need-wide-requires
-wide-requires c κs = search needs
-
 returns : tie.Need-returns
 returns c =
     let p = c .before .before .before .before .before .pre in
     finds-none (slot-empty (p .1 .1 .1 .1) _ (rw (← p .0) (sym (c .before .wide .ensures .0) ∙ c .if1 .taken)))
-
-sub-k : tie.Need-sub-k
-sub-k c = search needs
-
-mul-at : tie.Need-mul-at
-mul-at c = search needs
 
 element-copy-out-at : tie.Need-element-copy-out-at
 element-copy-out-at c = omega (arith, below c)
 
 cast-at : tie.Need-cast-at
 cast-at c = omega (arith, begins (c .before) .fills)
-
-count-of-requires : tie.Need-count-of-requires
-count-of-requires c κs = search needs
 
 length-at-requires : tie.Need-length-at-requires
 length-at-requires c κs =
@@ -60,17 +45,8 @@ length-at-requires c κs =
 add-same-name : tie.Need-add-same-name
 add-same-name c = omega (arith, inside c)
 
-sub-same-name : tie.Need-sub-same-name
-sub-same-name c = search needs
-
-part-same-name-start : tie.Need-part-same-name-start
-part-same-name-start c = search needs
-
 part-same-name-end : tie.Need-part-same-name-end
 part-same-name-end c = omega (arith, inside c)
-
-same-name-requires : tie.Need-same-name-requires
-same-name-requires c κs = search needs
 
 returns-2 : tie.Need-returns-2
 returns-2 c =
@@ -78,30 +54,24 @@ returns-2 c =
     let b = w .before .before .before in
     finds-at (below b) (standing-here (begins b) (omega (arith, below b)) (w .length-at .ensures .0)) (sym (c .before .same-name .ensures) ∙ c .if2 .taken)
 
-position-requires : tie.Need-position-requires
-position-requires c κs = search needs
-
-returns-3 : tie.Need-returns-3
-returns-3 c = search needs
-
 pub find-by-spec : {M : Type 1} → statement M
 find-by-spec =
     tie.close
     (tie.spec
-    element-copy-out-wide
-    wide-requires
+    (λ c. search needs)  -- element-copy-out-wide
+    (λ c κs. search needs)  -- wide-requires
     returns
-    sub-k
-    mul-at
+    (λ c. search needs)  -- sub-k
+    (λ c. search needs)  -- mul-at
     element-copy-out-at
     cast-at
-    count-of-requires
+    (λ c κs. search needs)  -- count-of-requires
     length-at-requires
     add-same-name
-    sub-same-name
-    part-same-name-start
+    (λ c. search needs)  -- sub-same-name
+    (λ c. search needs)  -- part-same-name-start
     part-same-name-end
-    same-name-requires
+    (λ c κs. search needs)  -- same-name-requires
     returns-2
-    position-requires
-    returns-3)
+    (λ c κs. search needs)  -- position-requires
+    (λ c. search needs))  -- returns-3

@@ -20,12 +20,6 @@ Inv-loop name s first count k₀ at₀ k at = Standing s count k at × (k ≤ fi
 abbrev μ-loop : tie.MeasureT-loop
 μ-loop name s first count k₀ at₀ k at = first - k
 
-count-of-requires : tie.Need-count-of-requires Inv-loop μ-loop
-count-of-requires c κs = search needs
-
-names-start-requires : tie.Need-names-start-requires Inv-loop μ-loop
-names-start-requires c κs = search needs
-
 loop-holds : tie.Need-loop-holds Inv-loop μ-loop
 unfolding has allNames
 loop-holds c = (rw (c .names-start .ensures) (standing-start _ _ (c .before .before .before .before .pre .0) (c .before .count-of .ensures .0)), omega arith, refl)
@@ -36,17 +30,8 @@ length-at-requires c κs = let l = c .before .loop in (l .inv .0 .laid, (l .inv 
 add-same-name : tie.Need-add-same-name Inv-loop μ-loop
 add-same-name c = omega (arith, standing-within (c .before .before .loop .inv .0) (omega arith) (c .length-at .ensures .0))
 
-sub-same-name : tie.Need-sub-same-name Inv-loop μ-loop
-sub-same-name c = omega arith
-
-part-same-name-start : tie.Need-part-same-name-start Inv-loop μ-loop
-part-same-name-start c = omega arith
-
 part-same-name-end : tie.Need-part-same-name-end Inv-loop μ-loop
 part-same-name-end c = omega (arith, standing-within (c .before .before .loop .inv .0) (omega arith) (c .length-at .ensures .0))
-
-same-name-requires : tie.Need-same-name-requires Inv-loop μ-loop
-same-name-requires c κs = search needs
 
 returns : tie.Need-returns Inv-loop μ-loop
 returns c =
@@ -58,12 +43,6 @@ add-at : tie.Need-add-at Inv-loop μ-loop
 add-at c =
     let w = c .before .before .before in
     omega (arith, standing-within (w .before .before .loop .inv .0) (omega arith) (w .length-at .ensures .0))
-
-add-k : tie.Need-add-k Inv-loop μ-loop
-add-k c = omega arith
-
-loop-less : tie.Need-loop-less Inv-loop μ-loop
-loop-less c = omega arith
 
 loop-again : tie.Need-loop-again Inv-loop μ-loop
 loop-again c =
@@ -87,18 +66,18 @@ position-spec =
     (tie.spec
     Inv-loop
     μ-loop
-    count-of-requires
-    names-start-requires
+    (λ c κs. search needs)  -- count-of-requires
+    (λ c κs. search needs)  -- names-start-requires
     loop-holds
     length-at-requires
     add-same-name
-    sub-same-name
-    part-same-name-start
+    (λ c. omega arith)  -- sub-same-name
+    (λ c. omega arith)  -- part-same-name-start
     part-same-name-end
-    same-name-requires
+    (λ c κs. search needs)  -- same-name-requires
     returns
     add-at
-    add-k
-    loop-less
+    (λ c. omega arith)  -- add-k
+    (λ c. omega arith)  -- loop-less
     loop-again
     returns-2)

@@ -8,43 +8,16 @@ use Rattle.store_table.specs.Inner.Index.{keyOf}
 use Rattle.name_hash.proofs.key_of.Statement.{statement}
 use Rattle.name_hash.proofs.key_of.Tie as tie
 
-le8-requires : tie.Need-le8-requires
-le8-requires c κs = search needs
-
-le8-requires-2 : tie.Need-le8-requires-2
-le8-requires-2 c κs = search needs
-
-add-result : tie.Need-add-result
-add-result c = search needs
-
 returns : tie.Need-returns
 unfolding keyOf
 returns c = rw (le-leb _ _ (c .before .before .if1 .taken), ← c .before .le8 .ensures, ← c .le82 .ensures)
-
-le4-requires : tie.Need-le4-requires
-le4-requires c κs = search needs
-
-le4-requires-2 : tie.Need-le4-requires-2
-le4-requires-2 c κs = search needs
-
-mul-result : tie.Need-mul-result
-mul-result c = search needs
-
-add-result-2 : tie.Need-add-result-2
-add-result-2 c = search needs
 
 returns-2 : tie.Need-returns-2
 unfolding keyOf
 returns-2 c = rw (lt-leb _ _ (c .before .before .before .if1 .left), le-leb _ _ (c .before .before .if2 .taken), ← c .before .le4 .ensures .0, ← c .le42 .ensures .0)
 
-shared-slice-read-result : tie.Need-shared-slice-read-result
-shared-slice-read-result c = search needs
-
 cast-result : tie.Need-cast-result
 cast-result c = omega (arith, c .shared-slice-known2 .given 0)
-
-shared-slice-read-result-2 : tie.Need-shared-slice-read-result-2
-shared-slice-read-result-2 c = search needs
 
 cast-result-2 : tie.Need-cast-result-2
 cast-result-2 c =
@@ -61,9 +34,6 @@ add-result-3 c =
     let n = c .before .before .before .before .before .before .args .name .now in
     let b = c .shared-slice-known3 .given in
     omega (arith, b 0, b (length n / 2))
-
-shared-slice-read-result-3 : tie.Need-shared-slice-read-result-3
-shared-slice-read-result-3 c = search needs
 
 cast-result-3 : tie.Need-cast-result-3
 cast-result-3 c =
@@ -95,22 +65,22 @@ pub key-of-spec : {M : Type 1} → statement M
 key-of-spec =
     tie.close
     (tie.spec
-    le8-requires
-    le8-requires-2
-    add-result
+    (λ c κs. search needs)  -- le8-requires
+    (λ c κs. search needs)  -- le8-requires-2
+    (λ c. search needs)  -- add-result
     returns
-    le4-requires
-    le4-requires-2
-    mul-result
-    add-result-2
+    (λ c κs. search needs)  -- le4-requires
+    (λ c κs. search needs)  -- le4-requires-2
+    (λ c. search needs)  -- mul-result
+    (λ c. search needs)  -- add-result-2
     returns-2
-    shared-slice-read-result
+    (λ c. search needs)  -- shared-slice-read-result
     cast-result
-    shared-slice-read-result-2
+    (λ c. search needs)  -- shared-slice-read-result-2
     cast-result-2
     mul-result-2
     add-result-3
-    shared-slice-read-result-3
+    (λ c. search needs)  -- shared-slice-read-result-3
     cast-result-3
     mul-result-3
     add-result-4

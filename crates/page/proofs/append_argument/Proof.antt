@@ -10,32 +10,14 @@ use borrow.Author.Needs.{needs}
 use Rattle.page.proofs.append_argument.Statement.{statement}
 use Rattle.page.proofs.append_argument.Tie as tie
 
-slice-aggregate-append : tie.Need-slice-aggregate-append
-slice-aggregate-append c = search needs
-
-append-requires : tie.Need-append-requires
-append-requires c κs = search needs
-
-append-digits-requires : tie.Need-append-digits-requires
-append-digits-requires c κs = search needs
-
-slice-aggregate-append-2 : tie.Need-slice-aggregate-append-2
-slice-aggregate-append-2 c = search needs
-
 append-requires-2 : tie.Need-append-requires-2
 append-requires-2 c κs = omega (arith, digits-short (c .before .before .before .before .before .before .before .before .before .before .before .before .args .index))
 
 append-fault-requires : tie.Need-append-fault-requires
 append-fault-requires c κs = omega (arith, digits-short (c .before .before .before .before .before .before .before .before .before .before .before .before .before .before .before .before .args .index))
 
-slice-aggregate-append-3 : tie.Need-slice-aggregate-append-3
-slice-aggregate-append-3 c = search needs
-
 append-requires-3 : tie.Need-append-requires-3
 append-requires-3 c κs = let a = c .before .before .before .before .before .before .before .before .before .before .before .before .before .before .before .before .before .before .before .before .before .args in omega (arith, digits-short (a .index), fault-short (a .fault))
-
-same-length : tie.Need-same-length
-same-length c = search needs
 
 returns : tie.Need-returns
 returns c =
@@ -51,13 +33,13 @@ pub append-argument-spec : {M : Type 1} → statement M
 append-argument-spec =
     tie.close
     (tie.spec
-    slice-aggregate-append
-    append-requires
-    append-digits-requires
-    slice-aggregate-append-2
+    (λ c. search needs)  -- slice-aggregate-append
+    (λ c κs. search needs)  -- append-requires
+    (λ c κs. search needs)  -- append-digits-requires
+    (λ c. search needs)  -- slice-aggregate-append-2
     append-requires-2
     append-fault-requires
-    slice-aggregate-append-3
+    (λ c. search needs)  -- slice-aggregate-append-3
     append-requires-3
-    same-length
+    (λ c. search needs)  -- same-length
     returns)

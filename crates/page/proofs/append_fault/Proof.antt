@@ -3,62 +3,14 @@ use borrow.Author.Needs.{needs}
 use Rattle.page.proofs.append_fault.Statement.{statement}
 use Rattle.page.proofs.append_fault.Tie as tie
 
-enum-told : tie.Need-enum-told
-enum-told c = search needs
-
-slice-aggregate-append : tie.Need-slice-aggregate-append
-slice-aggregate-append c = search needs
-
-append-requires : tie.Need-append-requires
-append-requires c κs = search needs
-
-enum-told-2 : tie.Need-enum-told-2
-enum-told-2 c = search needs
-
-slice-aggregate-append-2 : tie.Need-slice-aggregate-append-2
-slice-aggregate-append-2 c = search needs
-
-append-requires-2 : tie.Need-append-requires-2
-append-requires-2 c κs = search needs
-
-enum-told-3 : tie.Need-enum-told-3
-enum-told-3 c = search needs
-
-slice-aggregate-append-3 : tie.Need-slice-aggregate-append-3
-slice-aggregate-append-3 c = search needs
-
-append-requires-3 : tie.Need-append-requires-3
-append-requires-3 c κs = search needs
-
-enum-told-4 : tie.Need-enum-told-4
-enum-told-4 c = search needs
-
-slice-aggregate-append-4 : tie.Need-slice-aggregate-append-4
-slice-aggregate-append-4 c = search needs
-
-append-requires-4 : tie.Need-append-requires-4
-append-requires-4 c κs = search needs
-
-same-length : tie.Need-same-length
-same-length c = search needs
-
 returns : tie.Need-returns
 returns c = let a = c .before .before in rw (a .before .before .before .enum-told .given .1) (a .append .ensures)
-
-same-length-2 : tie.Need-same-length-2
-same-length-2 c = search needs
 
 returns-2 : tie.Need-returns-2
 returns-2 c = let a = c .before .before in rw (a .before .before .before .enum-told2 .given .1) (a .append2 .ensures)
 
-same-length-3 : tie.Need-same-length-3
-same-length-3 c = search needs
-
 returns-3 : tie.Need-returns-3
 returns-3 c = let a = c .before .before in rw (a .before .before .before .enum-told3 .given .1) (a .append3 .ensures)
-
-same-length-4 : tie.Need-same-length-4
-same-length-4 c = search needs
 
 returns-4 : tie.Need-returns-4
 returns-4 c = let a = c .before .before in rw (a .before .before .before .enum-told4 .given .1) (a .append4 .ensures)
@@ -67,23 +19,23 @@ pub append-fault-spec : {M : Type 1} → statement M
 append-fault-spec =
     tie.close
     (tie.spec
-    enum-told
-    slice-aggregate-append
-    append-requires
-    enum-told-2
-    slice-aggregate-append-2
-    append-requires-2
-    enum-told-3
-    slice-aggregate-append-3
-    append-requires-3
-    enum-told-4
-    slice-aggregate-append-4
-    append-requires-4
-    same-length
+    (λ c. search needs)  -- enum-told
+    (λ c. search needs)  -- slice-aggregate-append
+    (λ c κs. search needs)  -- append-requires
+    (λ c. search needs)  -- enum-told-2
+    (λ c. search needs)  -- slice-aggregate-append-2
+    (λ c κs. search needs)  -- append-requires-2
+    (λ c. search needs)  -- enum-told-3
+    (λ c. search needs)  -- slice-aggregate-append-3
+    (λ c κs. search needs)  -- append-requires-3
+    (λ c. search needs)  -- enum-told-4
+    (λ c. search needs)  -- slice-aggregate-append-4
+    (λ c κs. search needs)  -- append-requires-4
+    (λ c. search needs)  -- same-length
     returns
-    same-length-2
+    (λ c. search needs)  -- same-length-2
     returns-2
-    same-length-3
+    (λ c. search needs)  -- same-length-3
     returns-3
-    same-length-4
+    (λ c. search needs)  -- same-length-4
     returns-4)

@@ -13,33 +13,12 @@ use Rattle.page.proofs.report.Tie as tie
 returns : tie.Need-returns
 returns c = rw (← page-short _ _ _ (c .if1 .taken)) (put-none _ 0)
 
-count-args-requires : tie.Need-count-args-requires
-count-args-requires c κs = search needs
-
-slice-aggregate-append : tie.Need-slice-aggregate-append
-slice-aggregate-append c = search needs
-
-append-requires : tie.Need-append-requires
-append-requires c κs = search needs
-
-same-length : tie.Need-same-length
-same-length c = search needs
-
 returns-2 : tie.Need-returns-2
 returns-2 c =
     let a = c .before .before in
     let n = a .before .before .before .before in
     let s = n .before .before .before .before .before .args in
     rw (← page-many (s .text .now) (s .args .now) (s .page .now) (omega (arith, n .before .if1 .left)) (omega (arith, n .count-args .ensures, a .before .before .before .if2 .taken))) (a .append .ensures)
-
-slice-aggregate-table-of : tie.Need-slice-aggregate-table-of
-slice-aggregate-table-of c = search needs
-
-table-of-requires : tie.Need-table-of-requires
-table-of-requires c κs = search needs
-
-enum-known-size : tie.Need-enum-known-size
-enum-known-size c = search needs
 
 -- the table that the arguments make
 the-table : (c : tie.After-known-told) → Given (c .before .before .before .before .before .before .before .before .before .before .before .before .args .args .now) (c .before .before .before .before .table-of .last .1 .0) (c .before .size .given .0 .0)
@@ -53,22 +32,10 @@ array-share-prefix-table c = the-table c .within
 slice-aggregate-stores : tie.Need-slice-aggregate-stores
 slice-aggregate-stores c = sym (length-take-le _ _ (the-table (c .before) .within))
 
-judge-requires : tie.Need-judge-requires
-judge-requires c κs = search needs
-
 append-judged-requires : tie.Need-append-judged-requires
 append-judged-requires c κs =
     let g = the-table (c .before .before .before) in
     record { laid = g .laid; small = g .small; room = omega (arith, c .before .before .before .before .before .before .before .before .before .before .before .if1 .left); due = λ f e. judged-due _ _ f (sym (c .judge .ensures .0) ∙ e) }
-
-enum-known-index : tie.Need-enum-known-index
-enum-known-index c = search needs
-
-append-argument-requires : tie.Need-append-argument-requires
-append-argument-requires c κs = search needs
-
-same-length-2 : tie.Need-same-length-2
-same-length-2 c = search needs
 
 returns-3 : tie.Need-returns-3
 returns-3 c =
@@ -79,9 +46,6 @@ returns-3 c =
     rw
     (← page-judged (s .text .now) (s .args .now) (s .page .now) (omega (arith, n .before .if1 .left)) (omega (arith, n .count-args .ensures, k .before .before .before .before .before .before .if2 .left)) (the-table k) (j .judge .ensures .0))
     (c .before .before .append-judged .ensures)
-
-same-length-3 : tie.Need-same-length-3
-same-length-3 c = search needs
 
 returns-4 : tie.Need-returns-4
 returns-4 c =
@@ -99,21 +63,21 @@ report-spec =
     tie.close
     (tie.spec
     returns
-    count-args-requires
-    slice-aggregate-append
-    append-requires
-    same-length
+    (λ c κs. search needs)  -- count-args-requires
+    (λ c. search needs)  -- slice-aggregate-append
+    (λ c κs. search needs)  -- append-requires
+    (λ c. search needs)  -- same-length
     returns-2
-    slice-aggregate-table-of
-    table-of-requires
-    enum-known-size
+    (λ c. search needs)  -- slice-aggregate-table-of
+    (λ c κs. search needs)  -- table-of-requires
+    (λ c. search needs)  -- enum-known-size
     array-share-prefix-table
     slice-aggregate-stores
-    judge-requires
+    (λ c κs. search needs)  -- judge-requires
     append-judged-requires
-    enum-known-index
-    append-argument-requires
-    same-length-2
+    (λ c. search needs)  -- enum-known-index
+    (λ c κs. search needs)  -- append-argument-requires
+    (λ c. search needs)  -- same-length-2
     returns-3
-    same-length-3
+    (λ c. search needs)  -- same-length-3
     returns-4)

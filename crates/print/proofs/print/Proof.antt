@@ -14,12 +14,6 @@ use Rattle.print.proofs.print.Tie as tie
 the-image : (c : tie.Else1) → isSome (decode (c .before .before .before .before .args .image .now)) ≡ true
 the-image c = sym (c .before .is-image .ensures) ∙ not-false _ (c .if1 .left)
 
-is-image-requires : tie.Need-is-image-requires
-is-image-requires c κs = search needs
-
-refuse-requires : tie.Need-refuse-requires
-refuse-requires c κs = search needs
-
 returns : tie.Need-returns
 returns c = rw (c .refuse .ensures) (refused-16 _ _ (sym (c .before .before .is-image .ensures) ∙ not-true _ (c .before .if1 .taken)))
 
@@ -29,9 +23,6 @@ node-count-requires c κs = omega (arith, image-inside _ (the-image c) refl .lon
 text-size-requires : tie.Need-text-size-requires
 text-size-requires c κs = (image-inside _ (the-image (c .before)) (c .node-count .ensures .0), image-few _ (the-image (c .before)) (c .node-count .ensures .0))
 
-refuse-requires-2 : tie.Need-refuse-requires-2
-refuse-requires-2 c κs = search needs
-
 returns-2 : tie.Need-returns-2
 returns-2 c = rw (c .refuse2 .ensures) (refused-1 _ _ (the-image (c .before .before .before .before)) (c .before .before .before .node-count .ensures .0) (c .before .before .text-size .ensures) (c .before .if2 .taken))
 
@@ -39,9 +30,6 @@ put-rule-requires : tie.Need-put-rule-requires
 put-rule-requires c κs =
     let e = c .before in
     (image-inside _ (the-image (e .before .before .before)) (e .before .before .node-count .ensures .0), λ r z st. omega (arith, e .before .text-size .ensures r z st), omega (arith, e .if2 .left))
-
-same-length : tie.Need-same-length
-same-length c = search needs
 
 returns-3 : tie.Need-returns-3
 returns-3 c =
@@ -52,13 +40,13 @@ pub print-spec : {M : Type 1} → statement M
 print-spec =
     tie.close
     (tie.spec
-    is-image-requires
-    refuse-requires
+    (λ c κs. search needs)  -- is-image-requires
+    (λ c κs. search needs)  -- refuse-requires
     returns
     node-count-requires
     text-size-requires
-    refuse-requires-2
+    (λ c κs. search needs)  -- refuse-requires-2
     returns-2
     put-rule-requires
-    same-length
+    (λ c. search needs)  -- same-length
     returns-3)

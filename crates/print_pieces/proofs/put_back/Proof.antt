@@ -13,21 +13,12 @@ put-behind-requires : tie.Need-put-behind-requires
 unfolding backOf bracket
 put-behind-requires c κs = (omega (arith, simp length-append at (c .before .before .pre .0)), search needs)
 
-is-bracketed-requires : tie.Need-is-bracketed-requires
-is-bracketed-requires c κs = search needs
-
-slice-aggregate-put : tie.Need-slice-aggregate-put
-slice-aggregate-put c = search needs
-
 put-requires : tie.Need-put-requires
 unfolding backOf bracket
 put-requires c κs =
     let i = c .before .before in
     let s = i .before .before .before .before .before .before .before in
     (omega (arith, simp length-append at (rw (sym (i .before .is-bracketed .ensures) ∙ i .if1 .taken) at (s .pre .0))), omega arith)
-
-same-length : tie.Need-same-length
-same-length c = search needs
 
 returns : tie.Need-returns
 unfolding backOf bracket
@@ -36,9 +27,6 @@ returns c =
     let s = i .before .before .before .before .before .before .before in
     rw (sym (i .before .is-bracketed .ensures) ∙ i .if1 .taken)
     (put-before (s .pre .1) (i .before .before .before .before .put-behind .ensures) (c .before .before .put .ensures))
-
-same-length-2 : tie.Need-same-length-2
-same-length-2 c = search needs
 
 returns-2 : tie.Need-returns-2
 unfolding backOf bracket
@@ -49,10 +37,10 @@ put-back-spec =
     tie.close
     (tie.spec
     put-behind-requires
-    is-bracketed-requires
-    slice-aggregate-put
+    (λ c κs. search needs)  -- is-bracketed-requires
+    (λ c. search needs)  -- slice-aggregate-put
     put-requires
-    same-length
+    (λ c. search needs)  -- same-length
     returns
-    same-length-2
+    (λ c. search needs)  -- same-length-2
     returns-2)

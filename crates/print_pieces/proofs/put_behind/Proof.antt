@@ -8,17 +8,11 @@ use Rattle.print_text.proofs.Laws.PiecesLaws.{none-behind}
 use Rattle.print_pieces.proofs.put_behind.Statement.{statement}
 use Rattle.print_pieces.proofs.put_behind.Tie as tie
 
-slice-aggregate-put : tie.Need-slice-aggregate-put
-slice-aggregate-put c = search needs
-
 put-requires : tie.Need-put-requires
 unfolding behindOf behind
 put-requires c κs =
     let m = c .before .before in
     (rw (m .before .if1 .taken, m .match .keys1) at (m .before .before .before .pre .0), search needs)
-
-slice-aggregate-put-2 : tie.Need-slice-aggregate-put-2
-slice-aggregate-put-2 c = search needs
 
 put-requires-2 : tie.Need-put-requires-2
 unfolding behindOf behind
@@ -26,26 +20,17 @@ put-requires-2 c κs =
     let m = c .before .before in
     (rw (m .before .if1 .left, m .match2 .keys1) at (m .before .before .before .pre .0), search needs)
 
-slice-aggregate-put-3 : tie.Need-slice-aggregate-put-3
-slice-aggregate-put-3 c = search needs
-
 put-requires-3 : tie.Need-put-requires-3
 unfolding behindOf behind
 put-requires-3 c κs =
     let m = c .before .before in
     (rw (m .before .if1 .left, m .match2 .keys2) at (m .before .before .before .pre .0), search needs)
 
-slice-aggregate-put-4 : tie.Need-slice-aggregate-put-4
-slice-aggregate-put-4 c = search needs
-
 put-requires-4 : tie.Need-put-requires-4
 unfolding behindOf behind
 put-requires-4 c κs =
     let m = c .before .before in
     (rw (m .before .if1 .left, m .match2 .keys3) at (m .before .before .before .pre .0), search needs)
-
-same-length : tie.Need-same-length
-same-length c = search needs
 
 returns : tie.Need-returns
 unfolding behindOf behind
@@ -56,26 +41,17 @@ returns c =
 returns-2 : tie.Need-returns-2
 returns-2 c = rw (none-behind (c .before .before .before .args .kind) (λ e. omega arith) (λ h k. c .before .if1 .taken)) (put-none _ _)
 
-same-length-2 : tie.Need-same-length-2
-same-length-2 c = search needs
-
 returns-3 : tie.Need-returns-3
 unfolding behindOf behind
 returns-3 c =
     let m = c .before .before .before .before .before in
     rw (m .before .if1 .left, m .match2 .keys1) (c .before .before .put2 .ensures)
 
-same-length-3 : tie.Need-same-length-3
-same-length-3 c = search needs
-
 returns-4 : tie.Need-returns-4
 unfolding behindOf behind
 returns-4 c =
     let m = c .before .before .before .before .before in
     rw (m .before .if1 .left, m .match2 .keys2) (c .before .before .put3 .ensures)
-
-same-length-4 : tie.Need-same-length-4
-same-length-4 c = search needs
 
 returns-5 : tie.Need-returns-5
 unfolding behindOf behind
@@ -90,21 +66,21 @@ pub put-behind-spec : {M : Type 1} → statement M
 put-behind-spec =
     tie.close
     (tie.spec
-    slice-aggregate-put
+    (λ c. search needs)  -- slice-aggregate-put
     put-requires
-    slice-aggregate-put-2
+    (λ c. search needs)  -- slice-aggregate-put-2
     put-requires-2
-    slice-aggregate-put-3
+    (λ c. search needs)  -- slice-aggregate-put-3
     put-requires-3
-    slice-aggregate-put-4
+    (λ c. search needs)  -- slice-aggregate-put-4
     put-requires-4
-    same-length
+    (λ c. search needs)  -- same-length
     returns
     returns-2
-    same-length-2
+    (λ c. search needs)  -- same-length-2
     returns-3
-    same-length-3
+    (λ c. search needs)  -- same-length-3
     returns-4
-    same-length-4
+    (λ c. search needs)  -- same-length-4
     returns-5
     returns-6)

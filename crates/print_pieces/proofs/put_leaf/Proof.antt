@@ -20,9 +20,6 @@ put-requires c κs =
     let m = c .before .before in
     (rw (c .name-of .ensures) (rw (m .match .keys1) at (m .before .before .before .pre .1)), search needs)
 
-slice-aggregate-put : tie.Need-slice-aggregate-put
-slice-aggregate-put c = search needs
-
 put-requires-2 : tie.Need-put-requires-2
 unfolding leafTextOf leafText meaning
 put-requires-2 c κs =
@@ -35,17 +32,11 @@ format-duration-requires c κs =
     let m = c .before .before .before .before .before .before in
     (omega (arith, simp length-append at (rw (m .match .keys2) at (m .before .before .before .pre .1))), omega arith)
 
-slice-aggregate-put-2 : tie.Need-slice-aggregate-put-2
-slice-aggregate-put-2 c = search needs
-
 put-requires-3 : tie.Need-put-requires-3
 unfolding leafTextOf leafText meaning
 put-requires-3 c κs =
     let m = c .before .before .before .before .before .before .before .before .before .before .before in
     (omega (arith, simp length-append at (rw (m .match .keys2) at (m .before .before .before .pre .1))), omega arith)
-
-slice-aggregate-put-3 : tie.Need-slice-aggregate-put-3
-slice-aggregate-put-3 c = search needs
 
 put-requires-4 : tie.Need-put-requires-4
 unfolding leafTextOf leafText meaning
@@ -59,26 +50,17 @@ put-digits-requires c κs =
     let m = c .before .before .before .before .before .before in
     (omega (arith, simp length-append at (rw (m .match .keys3) at (m .before .before .before .pre .1))), omega arith)
 
-slice-aggregate-put-4 : tie.Need-slice-aggregate-put-4
-slice-aggregate-put-4 c = search needs
-
 put-requires-5 : tie.Need-put-requires-5
 unfolding leafTextOf leafText meaning
 put-requires-5 c κs =
     let m = c .before .before .before .before .before .before .before .before .before .before .before in
     (omega (arith, simp length-append at (rw (m .match .keys3) at (m .before .before .before .pre .1))), omega arith)
 
-same-length : tie.Need-same-length
-same-length c = search needs
-
 returns : tie.Need-returns
 unfolding leafTextOf leafText meaning
 returns c =
     let m = c .before .before .before .before .before in
     rw (m .match .keys1) (rw (c .before .before .before .name-of .ensures) at (c .before .before .put .ensures))
-
-same-length-2 : tie.Need-same-length-2
-same-length-2 c = search needs
 
 returns-2 : tie.Need-returns-2
 unfolding leafTextOf leafText meaning
@@ -88,9 +70,6 @@ returns-2 c =
     let m = p .before .before .before in
     let l = m .before .before .before .pre .2 in
     rw (m .match .keys2) (put-before l (put-before l (p .put2 .ensures) (d .format-duration .ensures)) (c .before .before .put3 .ensures))
-
-same-length-3 : tie.Need-same-length-3
-same-length-3 c = search needs
 
 returns-3 : tie.Need-returns-3
 unfolding leafTextOf leafText meaning
@@ -112,20 +91,20 @@ put-leaf-spec =
     (tie.spec
     name-of-requires
     put-requires
-    slice-aggregate-put
+    (λ c. search needs)  -- slice-aggregate-put
     put-requires-2
     format-duration-requires
-    slice-aggregate-put-2
+    (λ c. search needs)  -- slice-aggregate-put-2
     put-requires-3
-    slice-aggregate-put-3
+    (λ c. search needs)  -- slice-aggregate-put-3
     put-requires-4
     put-digits-requires
-    slice-aggregate-put-4
+    (λ c. search needs)  -- slice-aggregate-put-4
     put-requires-5
-    same-length
+    (λ c. search needs)  -- same-length
     returns
-    same-length-2
+    (λ c. search needs)  -- same-length-2
     returns-2
-    same-length-3
+    (λ c. search needs)  -- same-length-3
     returns-3
     returns-4)

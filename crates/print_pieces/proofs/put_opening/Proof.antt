@@ -9,9 +9,6 @@ use Rattle.print_text.proofs.Laws.PiecesLaws.{no-opening}
 use Rattle.print_pieces.proofs.put_opening.Statement.{statement}
 use Rattle.print_pieces.proofs.put_opening.Tie as tie
 
-slice-aggregate-put : tie.Need-slice-aggregate-put
-slice-aggregate-put c = search needs
-
 put-requires : tie.Need-put-requires
 unfolding openingOf opening
 put-requires c κs =
@@ -24,17 +21,11 @@ put-digits-requires c κs =
     let m = c .before .before .before .before .before .before in
     (omega (arith, simp length-append at (rw (m .match .keys1) at (m .before .before .pre .0))), omega arith)
 
-slice-aggregate-put-2 : tie.Need-slice-aggregate-put-2
-slice-aggregate-put-2 c = search needs
-
 put-requires-2 : tie.Need-put-requires-2
 unfolding openingOf opening
 put-requires-2 c κs =
     let m = c .before .before .before .before .before .before .before .before .before .before .before in
     (omega (arith, simp length-append at (rw (m .match .keys1) at (m .before .before .pre .0))), omega arith)
-
-same-length : tie.Need-same-length
-same-length c = search needs
 
 returns : tie.Need-returns
 unfolding openingOf opening
@@ -51,11 +42,11 @@ pub put-opening-spec : {M : Type 1} → statement M
 put-opening-spec =
     tie.close
     (tie.spec
-    slice-aggregate-put
+    (λ c. search needs)  -- slice-aggregate-put
     put-requires
     put-digits-requires
-    slice-aggregate-put-2
+    (λ c. search needs)  -- slice-aggregate-put-2
     put-requires-2
-    same-length
+    (λ c. search needs)  -- same-length
     returns
     returns-2)

@@ -7,21 +7,12 @@ use Rattle.print_text.proofs.Laws.PiecesLaws.{behind-short}
 use Rattle.print_size.proofs.around_size.Statement.{statement}
 use Rattle.print_size.proofs.around_size.Tie as tie
 
-is-bracketed-requires : tie.Need-is-bracketed-requires
-is-bracketed-requires c κs = search needs
-
-behind-size-requires : tie.Need-behind-size-requires
-behind-size-requires c κs = search needs
-
 add-result : tie.Need-add-result
 add-result c = omega (arith, behind-short (c .before .before .before .args .kind) (c .before .before .before .args .last))
 
 returns : tie.Need-returns
 unfolding frontOf backOf
 returns c = rw (sym (c .before .before .is-bracketed .ensures) ∙ c .before .if1 .taken) (omega arith)
-
-behind-size-requires-2 : tie.Need-behind-size-requires-2
-behind-size-requires-2 c κs = search needs
 
 returns-2 : tie.Need-returns-2
 unfolding frontOf backOf
@@ -31,9 +22,9 @@ pub around-size-spec : {M : Type 1} → statement M
 around-size-spec =
     tie.close
     (tie.spec
-    is-bracketed-requires
-    behind-size-requires
+    (λ c κs. search needs)  -- is-bracketed-requires
+    (λ c κs. search needs)  -- behind-size-requires
     add-result
     returns
-    behind-size-requires-2
+    (λ c κs. search needs)  -- behind-size-requires-2
     returns-2)

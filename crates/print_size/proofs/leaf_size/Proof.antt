@@ -15,14 +15,8 @@ use Rattle.print_size.proofs.leaf_size.Tie as tie
 name-of-requires : tie.Need-name-of-requires
 name-of-requires c κs = c .before .before .pre (c .match .keys1)
 
-duration-size-requires : tie.Need-duration-size-requires
-duration-size-requires c κs = search needs
-
 add-result : tie.Need-add-result
 add-result c = omega (arith, duration-short (c .before .before .before .args .arg))
-
-digit-count-requires : tie.Need-digit-count-requires
-digit-count-requires c κs = search needs
 
 add-result-2 : tie.Need-add-result-2
 add-result-2 c = omega (arith, digits-short (c .before .before .before .args .arg))
@@ -47,9 +41,9 @@ leaf-size-spec =
     tie.close
     (tie.spec
     name-of-requires
-    duration-size-requires
+    (λ c κs. search needs)  -- duration-size-requires
     add-result
-    digit-count-requires
+    (λ c κs. search needs)  -- digit-count-requires
     add-result-2
     returns
     returns-2

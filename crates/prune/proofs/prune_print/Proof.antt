@@ -4,29 +4,8 @@ use Rattle.answers.proofs.Laws.OutcomeLaws.{print-answer}
 use Rattle.prune.proofs.prune_print.Statement.{statement}
 use Rattle.prune.proofs.prune_print.Tie as tie
 
-print-requires : tie.Need-print-requires
-print-requires c κs = search needs
-
-enum-known-size : tie.Need-enum-known-size
-enum-known-size c = search needs
-
-answer-requires : tie.Need-answer-requires
-answer-requires c κs = search needs
-
-enum-known-f : tie.Need-enum-known-f
-enum-known-f c = search needs
-
-answer-requires-2 : tie.Need-answer-requires-2
-answer-requires-2 c κs = search needs
-
-same-length : tie.Need-same-length
-same-length c = search needs
-
 returns : tie.Need-returns
 returns c = print-answer (c .before .before .before .before .before .before .print .ensures) (c .before .before .size .given .1) (c .answer .ensures)
-
-same-length-2 : tie.Need-same-length-2
-same-length-2 c = search needs
 
 returns-2 : tie.Need-returns-2
 returns-2 c = print-answer (c .before .before .before .before .before .before .print .ensures) (c .before .before .f .given .1) (c .answer2 .ensures)
@@ -35,12 +14,12 @@ pub prune-print-spec : {M : Type 1} → statement M
 prune-print-spec =
     tie.close
     (tie.spec
-    print-requires
-    enum-known-size
-    answer-requires
-    enum-known-f
-    answer-requires-2
-    same-length
+    (λ c κs. search needs)  -- print-requires
+    (λ c. search needs)  -- enum-known-size
+    (λ c κs. search needs)  -- answer-requires
+    (λ c. search needs)  -- enum-known-f
+    (λ c κs. search needs)  -- answer-requires-2
+    (λ c. search needs)  -- same-length
     returns
-    same-length-2
+    (λ c. search needs)  -- same-length-2
     returns-2)

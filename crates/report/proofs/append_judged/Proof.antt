@@ -6,19 +6,10 @@ use Rattle.details.proofs.Laws.ShortLaws.{verdict-short, meaning-short}
 use Rattle.report.proofs.append_judged.Statement.{statement}
 use Rattle.report.proofs.append_judged.Tie as tie
 
-append-verdict-requires : tie.Need-append-verdict-requires
-append-verdict-requires c κs = search needs
-
-enum-told : tie.Need-enum-told
-enum-told c = search needs
-
 append-pass-requires : tie.Need-append-pass-requires
 append-pass-requires c κs =
     let s = c .before .before .before .before .before .before .before .before .before .before in
     (s .pre .laid, omega (arith, verdict-short (s .args .v)))
-
-enum-known-v : tie.Need-enum-known-v
-enum-known-v c = search needs
 
 append-meaning-requires : tie.Need-append-meaning-requires
 append-meaning-requires c κs = omega (arith, verdict-short (c .before .before .before .before .before .before .before .before .before .before .before .args .v))
@@ -34,18 +25,12 @@ append-detail-requires c κs =
       due = s .pre .due _ (g .1);
     }
 
-same-length : tie.Need-same-length
-same-length c = search needs
-
 returns : tie.Need-returns
 returns c =
     let e₂ = c .before .before in
     let t = e₂ .before .before in
     let e₁ = t .before .before .before .before in
     rw (t .enum-told .given .1) (put-behind (omega arith) (rw (t .enum-told .given .1) at (e₁ .append-verdict .ensures)) (e₂ .append-pass .ensures))
-
-same-length-2 : tie.Need-same-length-2
-same-length-2 c = search needs
 
 returns-2 : tie.Need-returns-2
 returns-2 c =
@@ -60,13 +45,13 @@ pub append-judged-spec : {M : Type 1} → statement M
 append-judged-spec =
     tie.close
     (tie.spec
-    append-verdict-requires
-    enum-told
+    (λ c κs. search needs)  -- append-verdict-requires
+    (λ c. search needs)  -- enum-told
     append-pass-requires
-    enum-known-v
+    (λ c. search needs)  -- enum-known-v
     append-meaning-requires
     append-detail-requires
-    same-length
+    (λ c. search needs)  -- same-length
     returns
-    same-length-2
+    (λ c. search needs)  -- same-length-2
     returns-2)

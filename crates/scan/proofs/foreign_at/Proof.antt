@@ -19,32 +19,17 @@ Inv-loop text class i₀ i = runEnd ascii text i ≡ runEnd ascii text 0
 abbrev μ-loop : tie.MeasureT-loop
 μ-loop text class i₀ i = length text - i
 
-largest-from-requires : tie.Need-largest-from-requires Inv-loop μ-loop
-largest-from-requires c κs = search needs
-
 returns : tie.Need-returns Inv-loop μ-loop
 returns c = sym (none-foreign _ (omega arith))
 
 loop-holds : tie.Need-loop-holds Inv-loop μ-loop
 loop-holds c = refl
 
-shared-slice-read-class-at : tie.Need-shared-slice-read-class-at Inv-loop μ-loop
-shared-slice-read-class-at c = omega arith
-
-class-at-requires : tie.Need-class-at-requires Inv-loop μ-loop
-class-at-requires c κs = search needs
-
 returns-2 : tie.Need-returns-2 Inv-loop μ-loop
 unfolding ascii
 returns-2 c =
     let l = c .before .before .before .before .loop in
     sym (end-stop _ _ (l .i) (omega arith) (ap not (is-so (c .before .class-at .ensures) refl (c .if2 .taken)))) ∙ l .inv
-
-add-i : tie.Need-add-i Inv-loop μ-loop
-add-i c = omega arith
-
-loop-less : tie.Need-loop-less Inv-loop μ-loop
-loop-less c = omega arith
 
 loop-again : tie.Need-loop-again Inv-loop μ-loop
 unfolding ascii
@@ -61,13 +46,13 @@ foreign-at-spec =
     (tie.spec
     Inv-loop
     μ-loop
-    largest-from-requires
+    (λ c κs. search needs)  -- largest-from-requires
     returns
     loop-holds
-    shared-slice-read-class-at
-    class-at-requires
+    (λ c. omega arith)  -- shared-slice-read-class-at
+    (λ c κs. search needs)  -- class-at-requires
     returns-2
-    add-i
-    loop-less
+    (λ c. omega arith)  -- add-i
+    (λ c. omega arith)  -- loop-less
     loop-again
     returns-3)

@@ -18,27 +18,12 @@ abbrev μ-loop : tie.MeasureT-loop
 loop-holds : tie.Need-loop-holds Inv-loop μ-loop
 loop-holds c = refl
 
-token-at-requires : tie.Need-token-at-requires Inv-loop μ-loop
-token-at-requires c κs = search needs
-
-next-of-requires : tie.Need-next-of-requires Inv-loop μ-loop
-next-of-requires c κs = search needs
-
-enum-told : tie.Need-enum-told Inv-loop μ-loop
-enum-told c = search needs
-
-last-of-requires : tie.Need-last-of-requires Inv-loop μ-loop
-last-of-requires c κs = search needs
-
 returns : tie.Need-returns Inv-loop μ-loop
 returns c =
     let m = c .before .before in
     let here = m .before .before .token-at .ensures in
     let off = ap nextOf (sym here) ∙ sym (m .before .next-of .ensures) ∙ c .before .enum-told .given .1 in
     c .last-of .ensures ∙ ap lastOf here ∙ sym (scan-end _ _ off) ∙ m .before .before .before .loop .inv
-
-enum-known-next : tie.Need-enum-known-next Inv-loop μ-loop
-enum-known-next c = search needs
 
 loop-less : tie.Need-loop-less Inv-loop μ-loop
 loop-less c =
@@ -58,11 +43,11 @@ scan-spec =
     Inv-loop
     μ-loop
     loop-holds
-    token-at-requires
-    next-of-requires
-    enum-told
-    last-of-requires
+    (λ c κs. search needs)  -- token-at-requires
+    (λ c κs. search needs)  -- next-of-requires
+    (λ c. search needs)  -- enum-told
+    (λ c κs. search needs)  -- last-of-requires
     returns
-    enum-known-next
+    (λ c. search needs)  -- enum-known-next
     loop-less
     loop-again)

@@ -6,20 +6,8 @@ use Rattle.tokens.proofs.Laws.SignLaws.{behind-end, behind-bracket, behind-othe
 use Rattle.signs.proofs.bracket_at.Statement.{statement}
 use Rattle.signs.proofs.bracket_at.Tie as tie
 
-class-end-requires : tie.Need-class-end-requires
-class-end-requires c κs = search needs
-
 returns : tie.Need-returns
 returns c = sym (behind-end _ _ (c .before .class-end .ensures) _ (omega arith))
-
-shared-slice-read-class-at : tie.Need-shared-slice-read-class-at
-shared-slice-read-class-at c = search needs
-
-class-at-requires : tie.Need-class-at-requires
-class-at-requires c κs = search needs
-
-add-t11 : tie.Need-add-t11
-add-t11 c = search needs
 
 returns-2 : tie.Need-returns-2
 returns-2 c =
@@ -37,10 +25,10 @@ pub bracket-at-spec : {M : Type 1} → statement M
 bracket-at-spec =
     tie.close
     (tie.spec
-    class-end-requires
+    (λ c κs. search needs)  -- class-end-requires
     returns
-    shared-slice-read-class-at
-    class-at-requires
-    add-t11
+    (λ c. search needs)  -- shared-slice-read-class-at
+    (λ c κs. search needs)  -- class-at-requires
+    (λ c. search needs)  -- add-t11
     returns-2
     returns-3)

@@ -5,30 +5,6 @@ use borrow.Author.Needs.{needs}
 use Rattle.signs.proofs.next_of.Statement.{statement}
 use Rattle.signs.proofs.next_of.Tie as tie
 
-enum-told : tie.Need-enum-told
-enum-told c = search needs
-
-enum-known-t : tie.Need-enum-known-t
-enum-known-t c = search needs
-
-enum-known-t-2 : tie.Need-enum-known-t-2
-enum-known-t-2 c = search needs
-
-enum-known-t-3 : tie.Need-enum-known-t-3
-enum-known-t-3 c = search needs
-
-enum-known-t-4 : tie.Need-enum-known-t-4
-enum-known-t-4 c = search needs
-
-enum-known-t-5 : tie.Need-enum-known-t-5
-enum-known-t-5 c = search needs
-
-enum-known-t-6 : tie.Need-enum-known-t-6
-enum-known-t-6 c = search needs
-
-enum-told-2 : tie.Need-enum-told-2
-enum-told-2 c = search needs
-
 returns : tie.Need-returns
 unfolding nextOf
 returns c = sym (ap nextOf (c .enum-told .given .1))
@@ -65,14 +41,14 @@ pub next-of-spec : {M : Type 1} → statement M
 next-of-spec =
     tie.close
     (tie.spec
-    enum-told
-    enum-known-t
-    enum-known-t-2
-    enum-known-t-3
-    enum-known-t-4
-    enum-known-t-5
-    enum-known-t-6
-    enum-told-2
+    (λ c. search needs)  -- enum-told
+    (λ c. search needs)  -- enum-known-t
+    (λ c. search needs)  -- enum-known-t-2
+    (λ c. search needs)  -- enum-known-t-3
+    (λ c. search needs)  -- enum-known-t-4
+    (λ c. search needs)  -- enum-known-t-5
+    (λ c. search needs)  -- enum-known-t-6
+    (λ c. search needs)  -- enum-told-2
     returns
     returns-2
     returns-3

@@ -5,30 +5,6 @@ use borrow.Author.Needs.{needs}
 use Rattle.signs.proofs.place_of.Statement.{statement}
 use Rattle.signs.proofs.place_of.Tie as tie
 
-enum-known-t : tie.Need-enum-known-t
-enum-known-t c = search needs
-
-enum-known-t-2 : tie.Need-enum-known-t-2
-enum-known-t-2 c = search needs
-
-enum-known-t-3 : tie.Need-enum-known-t-3
-enum-known-t-3 c = search needs
-
-enum-known-t-4 : tie.Need-enum-known-t-4
-enum-known-t-4 c = search needs
-
-enum-known-t-5 : tie.Need-enum-known-t-5
-enum-known-t-5 c = search needs
-
-enum-known-t-6 : tie.Need-enum-known-t-6
-enum-known-t-6 c = search needs
-
-enum-known-t-7 : tie.Need-enum-known-t-7
-enum-known-t-7 c = search needs
-
-enum-known-t-8 : tie.Need-enum-known-t-8
-enum-known-t-8 c = search needs
-
 returns : tie.Need-returns
 unfolding placeOf
 returns c = sym (ap placeOf (c .before .t .given .1))
@@ -65,14 +41,14 @@ pub place-of-spec : {M : Type 1} → statement M
 place-of-spec =
     tie.close
     (tie.spec
-    enum-known-t
-    enum-known-t-2
-    enum-known-t-3
-    enum-known-t-4
-    enum-known-t-5
-    enum-known-t-6
-    enum-known-t-7
-    enum-known-t-8
+    (λ c. search needs)  -- enum-known-t
+    (λ c. search needs)  -- enum-known-t-2
+    (λ c. search needs)  -- enum-known-t-3
+    (λ c. search needs)  -- enum-known-t-4
+    (λ c. search needs)  -- enum-known-t-5
+    (λ c. search needs)  -- enum-known-t-6
+    (λ c. search needs)  -- enum-known-t-7
+    (λ c. search needs)  -- enum-known-t-8
     returns
     returns-2
     returns-3

@@ -21,35 +21,14 @@ signed c e =
     behind-sign _ _ (d .before .before .before .class-end .ensures) _ (omega arith) (d .class-at .ensures) (omega arith) (omega arith) (c .before .if2 .taken) ∙
     rw (sym (c .doubled-at .ensures) ∙ e)
 
-class-end-requires : tie.Need-class-end-requires
-class-end-requires c κs = search needs
-
 returns : tie.Need-returns
 returns c = sym (behind-end _ _ (c .before .class-end .ensures) _ (omega arith))
-
-shared-slice-read-class-at : tie.Need-shared-slice-read-class-at
-shared-slice-read-class-at c = search needs
-
-class-at-requires : tie.Need-class-at-requires
-class-at-requires c κs = search needs
-
-doubled-at-requires : tie.Need-doubled-at-requires
-doubled-at-requires c κs = search needs
-
-add-t12 : tie.Need-add-t12
-add-t12 c = search needs
 
 returns-2 : tie.Need-returns-2
 returns-2 c = sym (signed (c .before) (c .if3 .taken))
 
 returns-3 : tie.Need-returns-3
 returns-3 c = sym (signed (c .before) (c .if3 .left))
-
-bare-at-requires : tie.Need-bare-at-requires
-bare-at-requires c κs = search needs
-
-next-if-requires : tie.Need-next-if-requires
-next-if-requires c κs = search needs
 
 returns-4 : tie.Need-returns-4
 returns-4 c =
@@ -66,15 +45,15 @@ pub sign-at-spec : {M : Type 1} → statement M
 sign-at-spec =
     tie.close
     (tie.spec
-    class-end-requires
+    (λ c κs. search needs)  -- class-end-requires
     returns
-    shared-slice-read-class-at
-    class-at-requires
-    doubled-at-requires
-    add-t12
+    (λ c. search needs)  -- shared-slice-read-class-at
+    (λ c κs. search needs)  -- class-at-requires
+    (λ c κs. search needs)  -- doubled-at-requires
+    (λ c. search needs)  -- add-t12
     returns-2
     returns-3
-    bare-at-requires
-    next-if-requires
+    (λ c κs. search needs)  -- bare-at-requires
+    (λ c κs. search needs)  -- next-if-requires
     returns-4
     returns-5)

@@ -20,22 +20,10 @@ abbrev μ-loop : tie.MeasureT-loop
 loop-holds : tie.Need-loop-holds Inv-loop μ-loop
 loop-holds c = (omega arith, refl)
 
-sub-b : tie.Need-sub-b Inv-loop μ-loop
-sub-b c = omega arith
-
-shared-slice-read-b : tie.Need-shared-slice-read-b Inv-loop μ-loop
-shared-slice-read-b c = omega arith
-
 returns : tie.Need-returns Inv-loop μ-loop
 returns c =
     let l = c .before .before .before .before .loop in
     sym (last-here _ _ (l .i) (omega arith) (is-within _ _ _ (c .before .if1 .taken) (c .if2 .taken))) ∙ l .inv .1
-
-sub-i : tie.Need-sub-i Inv-loop μ-loop
-sub-i c = omega arith
-
-loop-less : tie.Need-loop-less Inv-loop μ-loop
-loop-less c = omega arith
 
 loop-again : tie.Need-loop-again Inv-loop μ-loop
 loop-again c =
@@ -60,10 +48,10 @@ behind-last-spec =
     Inv-loop
     μ-loop
     loop-holds
-    sub-b
-    shared-slice-read-b
+    (λ c. omega arith)  -- sub-b
+    (λ c. omega arith)  -- shared-slice-read-b
     returns
-    sub-i
-    loop-less
+    (λ c. omega arith)  -- sub-i
+    (λ c. omega arith)  -- loop-less
     loop-again
     returns-2)

@@ -15,21 +15,6 @@ Inv-loop s at most₀ i₀ most i = max most (largest (drop i s)) ≡ largest (d
 abbrev μ-loop : tie.MeasureT-loop
 μ-loop s at most₀ i₀ most i = length s - i
 
-loop-holds : tie.Need-loop-holds Inv-loop μ-loop
-loop-holds c = omega arith
-
-shared-slice-read-if1 : tie.Need-shared-slice-read-if1 Inv-loop μ-loop
-shared-slice-read-if1 c = omega arith
-
-shared-slice-read-most : tie.Need-shared-slice-read-most Inv-loop μ-loop
-shared-slice-read-most c = omega arith
-
-add-i : tie.Need-add-i Inv-loop μ-loop
-add-i c = omega arith
-
-loop-less : tie.Need-loop-less Inv-loop μ-loop
-loop-less c = omega arith
-
 loop-again : tie.Need-loop-again Inv-loop μ-loop
 loop-again c =
     let l = c .before .before .before in
@@ -45,10 +30,10 @@ largest-from-spec =
     (tie.spec
     Inv-loop
     μ-loop
-    loop-holds
-    shared-slice-read-if1
-    shared-slice-read-most
-    add-i
-    loop-less
+    (λ c. omega arith)  -- loop-holds
+    (λ c. omega arith)  -- shared-slice-read-if1
+    (λ c. omega arith)  -- shared-slice-read-most
+    (λ c. omega arith)  -- add-i
+    (λ c. omega arith)  -- loop-less
     loop-again
     returns)

@@ -16,34 +16,13 @@ Inv-loop text₀ end piece start i₀ text i = (i ≤ length piece) × (length t
 abbrev μ-loop : tie.MeasureT-loop
 μ-loop text₀ end piece start i₀ text i = length piece - i
 
-sub-start : tie.Need-sub-start Inv-loop μ-loop
-sub-start c = omega arith
-
 loop-holds : tie.Need-loop-holds Inv-loop μ-loop
 loop-holds c = (omega arith, refl, written-none _ _)
-
-shared-slice-read-text : tie.Need-shared-slice-read-text Inv-loop μ-loop
-shared-slice-read-text c = omega arith
-
-add-text : tie.Need-add-text Inv-loop μ-loop
-add-text c = omega arith
-
-slice-write-text : tie.Need-slice-write-text Inv-loop μ-loop
-slice-write-text c = omega arith
-
-add-i : tie.Need-add-i Inv-loop μ-loop
-add-i c = omega arith
-
-loop-less : tie.Need-loop-less Inv-loop μ-loop
-loop-less c = omega arith
 
 loop-again : tie.Need-loop-again Inv-loop μ-loop
 loop-again c =
     let l = c .before .before .loop in
     (omega arith, search needs, copied-on _ _ (omega arith) _ (l .i) (omega arith) (l .inv .2) (omega arith))
-
-same-length : tie.Need-same-length Inv-loop μ-loop
-same-length c = search needs
 
 returns : tie.Need-returns Inv-loop μ-loop
 returns c =
@@ -57,13 +36,13 @@ put-spec =
     (tie.spec
     Inv-loop
     μ-loop
-    sub-start
+    (λ c. omega arith)  -- sub-start
     loop-holds
-    shared-slice-read-text
-    add-text
-    slice-write-text
-    add-i
-    loop-less
+    (λ c. omega arith)  -- shared-slice-read-text
+    (λ c. omega arith)  -- add-text
+    (λ c. omega arith)  -- slice-write-text
+    (λ c. omega arith)  -- add-i
+    (λ c. omega arith)  -- loop-less
     loop-again
-    same-length
+    (λ c. search needs)  -- same-length
     returns)

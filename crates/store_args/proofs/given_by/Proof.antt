@@ -9,14 +9,8 @@ use Rattle.store_args.proofs.given_by.Tie as tie
 returns : tie.Need-returns
 returns c = is-wrong LongName (given-long _ (c .if1 .taken))
 
-behind-last-requires : tie.Need-behind-last-requires
-behind-last-requires c κs = search needs
-
 returns-2 : tie.Need-returns-2
 returns-2 c = is-wrong NoColon (given-plain _ (c .before .before .if1 .left) (c .before .behind-last .ensures) (c .if2 .taken))
-
-sub-mode-tested : tie.Need-sub-mode-tested
-sub-mode-tested c = search needs
 
 mode-tested-requires : tie.Need-mode-tested-requires
 mode-tested-requires c κs = (search needs, rw (c .before .behind-last .ensures) (last-le _ _ _))
@@ -31,8 +25,8 @@ given-by-spec =
     tie.close
     (tie.spec
     returns
-    behind-last-requires
+    (λ c κs. search needs)  -- behind-last-requires
     returns-2
-    sub-mode-tested
+    (λ c. search needs)  -- sub-mode-tested
     mode-tested-requires
     returns-3)

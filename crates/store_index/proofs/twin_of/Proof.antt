@@ -25,12 +25,6 @@ abbrev μ-loop : tie.MeasureT-loop
 inside : (c : tie.After-length-at Inv-loop μ-loop) → c .before .before .loop .at + c .length-at .result ≤ length (c .before .before .before .before .before .before .args .stores .now)
 inside c = omega (arith, standing-within (c .before .before .loop .inv .0) (c .before .loop-test .taken) (c .length-at .ensures .0))
 
-count-of-requires : tie.Need-count-of-requires Inv-loop μ-loop
-count-of-requires c κs = search needs
-
-names-start-requires : tie.Need-names-start-requires Inv-loop μ-loop
-names-start-requires c κs = search needs
-
 loop-holds : tie.Need-loop-holds Inv-loop μ-loop
 loop-holds c =
     let p = c .before .before .before .pre in
@@ -42,26 +36,14 @@ length-at-requires c κs = let l = c .before .loop in (l .inv .0 .laid, (l .inv 
 add-name : tie.Need-add-name Inv-loop μ-loop
 add-name c = omega (arith, inside c)
 
-sub-name : tie.Need-sub-name Inv-loop μ-loop
-sub-name c = omega arith
-
-part-name-start : tie.Need-part-name-start Inv-loop μ-loop
-part-name-start c = omega arith
-
 part-name-end : tie.Need-part-name-end Inv-loop μ-loop
 part-name-end c = omega (arith, inside c)
-
-hash-of-requires : tie.Need-hash-of-requires Inv-loop μ-loop
-hash-of-requires c κs = search needs
 
 find-by-requires : tie.Need-find-by-requires Inv-loop μ-loop
 find-by-requires c κs =
     let h = c .before .before .hash-of .ensures in
     let l = c .before .before .before .before .before .before .loop in
     (h .0, (h .1, (l .inv .0 .laid, (omega arith, l .inv .2))))
-
-enum-told : tie.Need-enum-told Inv-loop μ-loop
-enum-told c = search needs
 
 returns : tie.Need-returns Inv-loop μ-loop
 returns c =
@@ -71,9 +53,6 @@ returns c =
     let f = c .before .before .find-by .ensures .there _ (c .enum-told .given .1) in
     (seen-yes (l .inv .1) e (rw (same-eq _ _ (f .1 .1 .1)) (has-at _ _ _ (f .0) (f .1 .1 .0))), λ z. absurd (let o : _≡_ {A = ℕ} 0 1 = cc in omega arith))
 
-enum-told-2 : tie.Need-enum-told-2 Inv-loop μ-loop
-enum-told-2 c = search needs
-
 enter-requires : tie.Need-enter-requires Inv-loop μ-loop
 enter-requires c κs =
     let h = c .before .before .before .before .before .before .before .hash-of .ensures in
@@ -81,12 +60,6 @@ enter-requires c κs =
 
 add-at : tie.Need-add-at Inv-loop μ-loop
 add-at c = omega (arith, inside (c .before .before .before .before .before .before .before .before .before .before))
-
-add-k : tie.Need-add-k Inv-loop μ-loop
-add-k c = omega arith
-
-loop-less : tie.Need-loop-less Inv-loop μ-loop
-loop-less c = omega arith
 
 loop-again : tie.Need-loop-again Inv-loop μ-loop
 loop-again c =
@@ -115,22 +88,22 @@ twin-of-spec =
     (tie.spec
     Inv-loop
     μ-loop
-    count-of-requires
-    names-start-requires
+    (λ c κs. search needs)  -- count-of-requires
+    (λ c κs. search needs)  -- names-start-requires
     loop-holds
     length-at-requires
     add-name
-    sub-name
-    part-name-start
+    (λ c. omega arith)  -- sub-name
+    (λ c. omega arith)  -- part-name-start
     part-name-end
-    hash-of-requires
+    (λ c κs. search needs)  -- hash-of-requires
     find-by-requires
-    enum-told
+    (λ c. search needs)  -- enum-told
     returns
-    enum-told-2
+    (λ c. search needs)  -- enum-told-2
     enter-requires
     add-at
-    add-k
-    loop-less
+    (λ c. omega arith)  -- add-k
+    (λ c. omega arith)  -- loop-less
     loop-again
     returns-2)

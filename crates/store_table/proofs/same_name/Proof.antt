@@ -22,25 +22,10 @@ returns c = sym (same-not length (c .if1 .taken))
 loop-holds : tie.Need-loop-holds Inv-loop μ-loop
 loop-holds c = (omega arith, refl)
 
-add-loop : tie.Need-add-loop Inv-loop μ-loop
-add-loop c = search needs
-
-le8-requires : tie.Need-le8-requires Inv-loop μ-loop
-le8-requires c κs = search needs
-
-le8-requires-2 : tie.Need-le8-requires-2 Inv-loop μ-loop
-le8-requires-2 c κs = search needs
-
 returns-2 : tie.Need-returns-2 Inv-loop μ-loop
 returns-2 c =
     let l = c .before .before .before .before .loop in
     sym (same-not (λ s. leAt s (l .i) 8) (λ e. c .if2 .taken (c .before .before .le8 .ensures ∙ e ∙ sym (c .before .le82 .ensures))))
-
-add-i : tie.Need-add-i Inv-loop μ-loop
-add-i c = search needs
-
-loop-less : tie.Need-loop-less Inv-loop μ-loop
-loop-less c = search needs
 
 loop-again : tie.Need-loop-again Inv-loop μ-loop
 loop-again c =
@@ -48,9 +33,6 @@ loop-again c =
     let s = l .before .before in
     let e = sym (c .before .before .le8 .ensures) ∙ c .if2 .left ∙ c .before .le82 .ensures in
     (omega arith, sym (same-number (l .loop .i) 8 _ _ (λ j. omega (arith, s .before .shared-slice-known .given j)) (λ j. omega (arith, s .shared-slice-known2 .given j)) (omega arith) (omega arith) e) ∙ l .loop .inv .1)
-
-same-from-requires : tie.Need-same-from-requires Inv-loop μ-loop
-same-from-requires c κs = search needs
 
 returns-3 : tie.Need-returns-3 Inv-loop μ-loop
 returns-3 c = c .same-from .ensures ∙ c .before .before .loop .inv .1
@@ -63,12 +45,12 @@ same-name-spec =
     μ-loop
     returns
     loop-holds
-    add-loop
-    le8-requires
-    le8-requires-2
+    (λ c. search needs)  -- add-loop
+    (λ c κs. search needs)  -- le8-requires
+    (λ c κs. search needs)  -- le8-requires-2
     returns-2
-    add-i
-    loop-less
+    (λ c. search needs)  -- add-i
+    (λ c. search needs)  -- loop-less
     loop-again
-    same-from-requires
+    (λ c κs. search needs)  -- same-from-requires
     returns-3)

@@ -15,27 +15,6 @@ Inv-loop s at n k₀ total₀ k total = (k ≤ n) × (total ≤ 255 * k) × (tot
 abbrev μ-loop : tie.MeasureT-loop
 μ-loop s at n k₀ total₀ k total = n - k
 
-loop-holds : tie.Need-loop-holds Inv-loop μ-loop
-loop-holds c = omega arith
-
-add-wide : tie.Need-add-wide Inv-loop μ-loop
-add-wide c = omega arith
-
-shared-slice-read-wide : tie.Need-shared-slice-read-wide Inv-loop μ-loop
-shared-slice-read-wide c = omega arith
-
-wide-requires : tie.Need-wide-requires Inv-loop μ-loop
-wide-requires c κs = search needs
-
-add-total : tie.Need-add-total Inv-loop μ-loop
-add-total c = omega arith
-
-add-k : tie.Need-add-k Inv-loop μ-loop
-add-k c = omega arith
-
-loop-less : tie.Need-loop-less Inv-loop μ-loop
-loop-less c = omega arith
-
 loop-again : tie.Need-loop-again Inv-loop μ-loop
 loop-again c =
     let a = c .before .before .before .before .before .args in
@@ -54,12 +33,12 @@ sum-from-spec =
     (tie.spec
     Inv-loop
     μ-loop
-    loop-holds
-    add-wide
-    shared-slice-read-wide
-    wide-requires
-    add-total
-    add-k
-    loop-less
+    (λ c. omega arith)  -- loop-holds
+    (λ c. omega arith)  -- add-wide
+    (λ c. omega arith)  -- shared-slice-read-wide
+    (λ c κs. search needs)  -- wide-requires
+    (λ c. omega arith)  -- add-total
+    (λ c. omega arith)  -- add-k
+    (λ c. omega arith)  -- loop-less
     loop-again
     returns)

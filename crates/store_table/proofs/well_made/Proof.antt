@@ -10,48 +10,21 @@ use Rattle.store_table.proofs.well_made.Tie as tie
 returns : tie.Need-returns
 returns c = unmade-short _ _ (omega arith)
 
-le2-requires : tie.Need-le2-requires
-le2-requires c κs = search needs
-
-le2-requires-2 : tie.Need-le2-requires-2
-le2-requires-2 c κs = search needs
-
 returns-2 : tie.Need-returns-2
 returns-2 c = unmade-many _ _ _ _ (c .before .before .le2 .ensures .0) (c .before .le22 .ensures .0) (omega arith)
 
-names-start-requires : tie.Need-names-start-requires
-names-start-requires c κs = search needs
-
-add-if3 : tie.Need-add-if3
-add-if3 c = search needs
-
 returns-3 : tie.Need-returns-3
 returns-3 c = let v = c .before .before .before in unmade-length _ _ _ _ (v .before .le2 .ensures .0) (v .le22 .ensures .0) (λ e. c .if3 .taken (omega (arith, c .before .names-start .ensures)))
-
-add-sum-from : tie.Need-add-sum-from
-add-sum-from c = search needs
-
-sum-from-requires : tie.Need-sum-from-requires
-sum-from-requires c κs = search needs
 
 returns-4 : tie.Need-returns-4
 returns-4 c =
     let v = c .before .before .before .before .before in
     unmade-sum _ _ _ _ (v .before .le2 .ensures .0) (v .le22 .ensures .0) (λ e. c .if4 .taken (c .before .sum-from .ensures ∙ e))
 
-all-at-most-requires : tie.Need-all-at-most-requires
-all-at-most-requires c κs = search needs
-
 returns-5 : tie.Need-returns-5
 returns-5 c =
     let v = c .before .before .before .before .before .before .before in
     unmade-modes _ _ _ _ (v .before .le2 .ensures .0) (v .le22 .ensures .0) (sym (c .before .all-at-most .ensures) ∙ not-true _ (c .if5 .taken))
-
-names-start-requires-2 : tie.Need-names-start-requires-2
-names-start-requires-2 c κs = search needs
-
-ascii-from-requires : tie.Need-ascii-from-requires
-ascii-from-requires c κs = search needs
 
 returns-6 : tie.Need-returns-6
 returns-6 c =
@@ -67,17 +40,17 @@ well-made-spec =
     tie.close
     (tie.spec
     returns
-    le2-requires
-    le2-requires-2
+    (λ c κs. search needs)  -- le2-requires
+    (λ c κs. search needs)  -- le2-requires-2
     returns-2
-    names-start-requires
-    add-if3
+    (λ c κs. search needs)  -- names-start-requires
+    (λ c. search needs)  -- add-if3
     returns-3
-    add-sum-from
-    sum-from-requires
+    (λ c. search needs)  -- add-sum-from
+    (λ c κs. search needs)  -- sum-from-requires
     returns-4
-    all-at-most-requires
+    (λ c κs. search needs)  -- all-at-most-requires
     returns-5
-    names-start-requires-2
-    ascii-from-requires
+    (λ c κs. search needs)  -- names-start-requires-2
+    (λ c κs. search needs)  -- ascii-from-requires
     returns-6)

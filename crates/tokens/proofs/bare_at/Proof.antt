@@ -16,29 +16,14 @@ use Rattle.tokens.proofs.bare_at.Tie as tie
 found : {w p : List ℕ} (sign : List ℕ) {r v : Bool} → w ≡ p → r ≡ equalIgnoringCase w sign → r ≡ v → equalIgnoringCase p sign ≡ v
 found sign e q h = ap (λ (x : List ℕ). equalIgnoringCase x sign) (sym e) ∙ sym q ∙ h
 
-class-end-requires : tie.Need-class-end-requires
-class-end-requires c κs = search needs
-
 word-of-requires : tie.Need-word-of-requires
 word-of-requires c κs = end-within _ _ _ (omega arith) (c .class-end .ensures)
-
-slice-aggregate-eq-ignore-ascii-case : tie.Need-slice-aggregate-eq-ignore-ascii-case
-slice-aggregate-eq-ignore-ascii-case c = search needs
-
-eq-ignore-ascii-case-requires : tie.Need-eq-ignore-ascii-case-requires
-eq-ignore-ascii-case-requires c κs = search needs
 
 returns : tie.Need-returns
 unfolding bareAt bareTo
 returns c =
     let w = c .before .before .before .word-of .ensures in
     rw (← c .before .before .before .before .class-end .ensures, found (bytes "and") w (c .before .eq-ignore-ascii-case .ensures) (c .if1 .taken))
-
-slice-aggregate-eq-ignore-ascii-case-2 : tie.Need-slice-aggregate-eq-ignore-ascii-case-2
-slice-aggregate-eq-ignore-ascii-case-2 c = search needs
-
-eq-ignore-ascii-case-requires-2 : tie.Need-eq-ignore-ascii-case-requires-2
-eq-ignore-ascii-case-requires-2 c κs = search needs
 
 returns-2 : tie.Need-returns-2
 unfolding bareAt bareTo
@@ -66,12 +51,12 @@ pub bare-at-spec : {M : Type 1} → statement M
 bare-at-spec =
     tie.close
     (tie.spec
-    class-end-requires
+    (λ c κs. search needs)  -- class-end-requires
     word-of-requires
-    slice-aggregate-eq-ignore-ascii-case
-    eq-ignore-ascii-case-requires
+    (λ c. search needs)  -- slice-aggregate-eq-ignore-ascii-case
+    (λ c κs. search needs)  -- eq-ignore-ascii-case-requires
     returns
-    slice-aggregate-eq-ignore-ascii-case-2
-    eq-ignore-ascii-case-requires-2
+    (λ c. search needs)  -- slice-aggregate-eq-ignore-ascii-case-2
+    (λ c κs. search needs)  -- eq-ignore-ascii-case-requires-2
     returns-2
     returns-3)

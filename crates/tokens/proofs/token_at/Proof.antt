@@ -17,32 +17,8 @@ here : (c : tie.After-class-at) {k : ℕ} → c .class-at .result ≡ k →
     tokenAt (start .text .now) (start .at) ≡ tokenOf (start .text .now) p (getD (start .text .now) p 0) k
 here c q = at-token _ _ (c .before .before .before .class-end .ensures) (omega arith) (sym (c .class-at .ensures) ∙ q)
 
-class-end-requires : tie.Need-class-end-requires
-class-end-requires c κs = search needs
-
 returns : tie.Need-returns
 returns c = sym (at-end _ _ (c .before .class-end .ensures) (omega arith))
-
-shared-slice-read-b : tie.Need-shared-slice-read-b
-shared-slice-read-b c = search needs
-
-class-at-requires : tie.Need-class-at-requires
-class-at-requires c κs = search needs
-
-add-t13 : tie.Need-add-t13
-add-t13 c = search needs
-
-add-t14 : tie.Need-add-t14
-add-t14 c = search needs
-
-add-t15 : tie.Need-add-t15
-add-t15 c = search needs
-
-doubled-at-requires : tie.Need-doubled-at-requires
-doubled-at-requires c κs = search needs
-
-add-t17 : tie.Need-add-t17
-add-t17 c = search needs
 
 returns-2 : tie.Need-returns-2
 unfolding tokenOf
@@ -50,29 +26,11 @@ returns-2 c =
     let m = c .before .before in
     sym (here (m .before) (m .match .keys4) ∙ simp (sym (c .before .doubled-at .ensures) ∙ c .if2 .taken))
 
-half-sign-requires : tie.Need-half-sign-requires
-half-sign-requires c κs = search needs
-
-doubled-at-requires-2 : tie.Need-doubled-at-requires-2
-doubled-at-requires-2 c κs = search needs
-
-add-t19 : tie.Need-add-t19
-add-t19 c = search needs
-
 returns-3 : tie.Need-returns-3
 unfolding tokenOf
 returns-3 c =
     let m = c .before .before in
     sym (here (m .before) (m .match .keys5) ∙ simp (sym (c .before .doubled-at2 .ensures) ∙ c .if3 .taken))
-
-half-sign-requires-2 : tie.Need-half-sign-requires-2
-half-sign-requires-2 c κs = search needs
-
-quoted-at-requires : tie.Need-quoted-at-requires
-quoted-at-requires c κs = search needs
-
-bare-at-requires : tie.Need-bare-at-requires
-bare-at-requires c κs = search needs
 
 returns-4 : tie.Need-returns-4
 unfolding tokenOf
@@ -126,23 +84,23 @@ pub token-at-spec : {M : Type 1} → statement M
 token-at-spec =
     tie.close
     (tie.spec
-    class-end-requires
+    (λ c κs. search needs)  -- class-end-requires
     returns
-    shared-slice-read-b
-    class-at-requires
-    add-t13
-    add-t14
-    add-t15
-    doubled-at-requires
-    add-t17
+    (λ c. search needs)  -- shared-slice-read-b
+    (λ c κs. search needs)  -- class-at-requires
+    (λ c. search needs)  -- add-t13
+    (λ c. search needs)  -- add-t14
+    (λ c. search needs)  -- add-t15
+    (λ c κs. search needs)  -- doubled-at-requires
+    (λ c. search needs)  -- add-t17
     returns-2
-    half-sign-requires
-    doubled-at-requires-2
-    add-t19
+    (λ c κs. search needs)  -- half-sign-requires
+    (λ c κs. search needs)  -- doubled-at-requires-2
+    (λ c. search needs)  -- add-t19
     returns-3
-    half-sign-requires-2
-    quoted-at-requires
-    bare-at-requires
+    (λ c κs. search needs)  -- half-sign-requires-2
+    (λ c κs. search needs)  -- quoted-at-requires
+    (λ c κs. search needs)  -- bare-at-requires
     returns-4
     returns-5
     returns-6

@@ -18,20 +18,11 @@ Inv-loop word start value₀ i₀ value i = (i ≤ length word) × ((value < 2 ^
 abbrev μ-loop : tie.MeasureT-loop
 μ-loop word start value₀ i₀ value i = length word - i
 
-sign-end-requires : tie.Need-sign-end-requires Inv-loop μ-loop
-sign-end-requires c κs = search needs
-
 returns : tie.Need-returns Inv-loop μ-loop
 returns c = sym (count-none _ (c .before .sign-end .ensures) (omega arith))
 
 loop-holds : tie.Need-loop-holds Inv-loop μ-loop
 loop-holds c = (omega arith, (omega arith, count-start _ (c .before .sign-end .ensures) (omega arith)))
-
-shared-slice-read-b : tie.Need-shared-slice-read-b Inv-loop μ-loop
-shared-slice-read-b c = omega arith
-
-is-digit-requires : tie.Need-is-digit-requires Inv-loop μ-loop
-is-digit-requires c κs = search needs
 
 returns-2 : tie.Need-returns-2 Inv-loop μ-loop
 returns-2 c =
@@ -45,9 +36,6 @@ digit c = sym (c .before .is-digit .ensures) ∙ not-false _ (c .if2 .left)
 digit-of-requires : tie.Need-digit-of-requires Inv-loop μ-loop
 digit-of-requires c κs = digit c
 
-sub-if3 : tie.Need-sub-if3 Inv-loop μ-loop
-sub-if3 c = omega arith
-
 -- the bytes behind it, behind the number with it, write the count
 on : (c : tie.After-digit-of Inv-loop μ-loop) → let l = c .before .before .before .before .before .loop in let w = c .before .before .before .before .before .before .before .before .before .args .word .now in countFrom (l .value * 10 + c .digit-of .result) (drop (l .i + 1) w) ≡ countOf w
 on c =
@@ -56,18 +44,6 @@ on c =
 
 returns-3 : tie.Need-returns-3 Inv-loop μ-loop
 returns-3 c = sym (count-over _ _ (omega arith)) ∙ on (c .before)
-
-mul-value : tie.Need-mul-value Inv-loop μ-loop
-mul-value c = omega arith
-
-add-value : tie.Need-add-value Inv-loop μ-loop
-add-value c = omega arith
-
-add-i : tie.Need-add-i Inv-loop μ-loop
-add-i c = omega arith
-
-loop-less : tie.Need-loop-less Inv-loop μ-loop
-loop-less c = omega arith
 
 loop-again : tie.Need-loop-again Inv-loop μ-loop
 loop-again c = (omega arith, (omega arith, on (c .before)))
@@ -83,18 +59,18 @@ parse-count-spec =
     (tie.spec
     Inv-loop
     μ-loop
-    sign-end-requires
+    (λ c κs. search needs)  -- sign-end-requires
     returns
     loop-holds
-    shared-slice-read-b
-    is-digit-requires
+    (λ c. omega arith)  -- shared-slice-read-b
+    (λ c κs. search needs)  -- is-digit-requires
     returns-2
     digit-of-requires
-    sub-if3
+    (λ c. omega arith)  -- sub-if3
     returns-3
-    mul-value
-    add-value
-    add-i
-    loop-less
+    (λ c. omega arith)  -- mul-value
+    (λ c. omega arith)  -- add-value
+    (λ c. omega arith)  -- add-i
+    (λ c. omega arith)  -- loop-less
     loop-again
     returns-4)

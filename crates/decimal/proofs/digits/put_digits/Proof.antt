@@ -24,17 +24,8 @@ room c = behind-room _ _ (c .loop .inv .2) (c .before .pre .0)
 sub-at : tie.Need-sub-at Inv-loop μ-loop
 sub-at c = room (c .before) .0
 
-cast-text : tie.Need-cast-text Inv-loop μ-loop
-cast-text c = omega arith
-
-add-text : tie.Need-add-text Inv-loop μ-loop
-add-text c = omega arith
-
 slice-write-text : tie.Need-slice-write-text Inv-loop μ-loop
 slice-write-text c = omega (arith, room (c .before))
-
-loop-less : tie.Need-loop-less Inv-loop μ-loop
-loop-less c = omega arith
 
 loop-again : tie.Need-loop-again Inv-loop μ-loop
 loop-again c =
@@ -44,17 +35,8 @@ loop-again c =
 sub-at-2 : tie.Need-sub-at-2 Inv-loop μ-loop
 sub-at-2 c = room (c .before) .0
 
-cast-text-2 : tie.Need-cast-text-2 Inv-loop μ-loop
-cast-text-2 c = omega arith
-
-add-text-2 : tie.Need-add-text-2 Inv-loop μ-loop
-add-text-2 c = omega arith
-
 slice-write-text-2 : tie.Need-slice-write-text-2 Inv-loop μ-loop
 slice-write-text-2 c = omega (arith, room (c .before))
-
-same-length : tie.Need-same-length Inv-loop μ-loop
-same-length c = search needs
 
 returns : tie.Need-returns Inv-loop μ-loop
 returns c = let p = c .before .before .pre in behind-first _ _ (c .before .loop .inv .2) (p .0) (p .1) (omega arith)
@@ -67,14 +49,14 @@ put-digits-spec =
     μ-loop
     loop-holds
     sub-at
-    cast-text
-    add-text
+    (λ c. omega arith)  -- cast-text
+    (λ c. omega arith)  -- add-text
     slice-write-text
-    loop-less
+    (λ c. omega arith)  -- loop-less
     loop-again
     sub-at-2
-    cast-text-2
-    add-text-2
+    (λ c. omega arith)  -- cast-text-2
+    (λ c. omega arith)  -- add-text-2
     slice-write-text-2
-    same-length
+    (λ c. search needs)  -- same-length
     returns)

@@ -25,9 +25,6 @@ mul-value c =
     let l = c .before .loop in
     omega (arith, head-small _ _ (p .1 .1 .1) (p .1 .1 .0) (l .value) (l .i) (l .inv .1 .1))
 
-shared-slice-read-digit-of : tie.Need-shared-slice-read-digit-of Inv-loop μ-loop
-shared-slice-read-digit-of c = omega arith
-
 digit-of-requires : tie.Need-digit-of-requires Inv-loop μ-loop
 digit-of-requires c κs = run-in isDigit (c .before .before .before .before .args .word .now) (c .before .before .loop .i) (omega arith) (omega arith)
 
@@ -47,12 +44,6 @@ add-value c =
     let p = c .before .before .before .before .before .pre in
     omega (arith, head-small _ _ (p .1 .1 .1) (p .1 .1 .0) _ _ (loop-again c .1 .1))
 
-add-i : tie.Need-add-i Inv-loop μ-loop
-add-i c = omega arith
-
-loop-less : tie.Need-loop-less Inv-loop μ-loop
-loop-less c = omega arith
-
 returns : tie.Need-returns Inv-loop μ-loop
 returns c =
     let p = c .before .before .before .pre in
@@ -69,10 +60,10 @@ decimal-of-spec =
     μ-loop
     loop-holds
     mul-value
-    shared-slice-read-digit-of
+    (λ c. omega arith)  -- shared-slice-read-digit-of
     digit-of-requires
     add-value
-    add-i
-    loop-less
+    (λ c. omega arith)  -- add-i
+    (λ c. omega arith)  -- loop-less
     loop-again
     returns)

@@ -19,20 +19,8 @@ abbrev μ-loop : tie.MeasureT-loop
 loop-holds : tie.Need-loop-holds Inv-loop μ-loop
 loop-holds c = refl
 
-shared-slice-read-is-digit : tie.Need-shared-slice-read-is-digit Inv-loop μ-loop
-shared-slice-read-is-digit c = omega arith
-
-is-digit-requires : tie.Need-is-digit-requires Inv-loop μ-loop
-is-digit-requires c κs = search needs
-
 returns : tie.Need-returns Inv-loop μ-loop
 returns c = let l = c .before .before .before .before .loop in run-stop _ _ (l .i) (omega arith) _ (l .inv) (c .before .is-digit .ensures) (c .if1 .taken)
-
-add-i : tie.Need-add-i Inv-loop μ-loop
-add-i c = omega arith
-
-loop-less : tie.Need-loop-less Inv-loop μ-loop
-loop-less c = omega arith
 
 loop-again : tie.Need-loop-again Inv-loop μ-loop
 loop-again c = let l = c .before .before .before .before .loop in run-on _ _ (l .i) (omega arith) _ (l .inv) (c .before .is-digit .ensures) (c .if1 .left)
@@ -47,10 +35,10 @@ digits-end-spec =
     Inv-loop
     μ-loop
     loop-holds
-    shared-slice-read-is-digit
-    is-digit-requires
+    (λ c. omega arith)  -- shared-slice-read-is-digit
+    (λ c κs. search needs)  -- is-digit-requires
     returns
-    add-i
-    loop-less
+    (λ c. omega arith)  -- add-i
+    (λ c. omega arith)  -- loop-less
     loop-again
     returns-2)

@@ -18,23 +18,14 @@ Inv-loop word class at₀ total₀ rank₀ at total rank = (at ≤ length word) 
 abbrev μ-loop : tie.MeasureT-loop
 μ-loop word class at₀ total₀ rank₀ at total rank = length units - rank
 
-class-end-requires : tie.Need-class-end-requires Inv-loop μ-loop
-class-end-requires c κs = search needs
-
 loop-holds : tie.Need-loop-holds Inv-loop μ-loop
 loop-holds c =
     let e = c .class-end .ensures in
     (end-within _ (c .before .before .args .word .now) 0 (omega arith) e .1, (omega arith, parts-start _ e))
 
-part-at-requires : tie.Need-part-at-requires Inv-loop μ-loop
-part-at-requires c κs = search needs
-
 -- what was read is what stands there
 read : (c : tie.After-part-at Inv-loop μ-loop) {p : Part} → c .part-at .result ≡ p → let l = c .before .before .loop in partAt (unitAt (l .rank)) (c .before .before .before .before .before .args .word .now) (l .at) ≡ p
 read c e = sym (c .part-at .ensures) ∙ e
-
-enum-known-amount : tie.Need-enum-known-amount Inv-loop μ-loop
-enum-known-amount c = search needs
 
 add-total : tie.Need-add-total Inv-loop μ-loop
 add-total c =
@@ -47,15 +38,6 @@ returns c =
     let p = c .before .before .before .before in
     let l = p .before .before .loop in
     sym (parts-last (l .total) _ (l .at) (l .rank) (p .before .loop-test .taken) (read p (c .before .before .amount .given .1)) (c .if1 .taken)) ∙ l .inv .1 .1
-
-enum-told : tie.Need-enum-told Inv-loop μ-loop
-enum-told c = search needs
-
-add-rank : tie.Need-add-rank Inv-loop μ-loop
-add-rank c = omega arith
-
-loop-less : tie.Need-loop-less Inv-loop μ-loop
-loop-less c = omega arith
 
 loop-again : tie.Need-loop-again Inv-loop μ-loop
 loop-again c =
@@ -81,14 +63,14 @@ parse-duration-spec =
     (tie.spec
     Inv-loop
     μ-loop
-    class-end-requires
+    (λ c κs. search needs)  -- class-end-requires
     loop-holds
-    part-at-requires
-    enum-known-amount
+    (λ c κs. search needs)  -- part-at-requires
+    (λ c. search needs)  -- enum-known-amount
     add-total
     returns
-    enum-told
-    add-rank
-    loop-less
+    (λ c. search needs)  -- enum-told
+    (λ c. omega arith)  -- add-rank
+    (λ c. omega arith)  -- loop-less
     loop-again
     returns-2)

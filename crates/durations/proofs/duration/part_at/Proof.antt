@@ -13,26 +13,11 @@ use Rattle.durations.proofs.Laws.DurationLaws.{amount-small, part-none,
 use Rattle.durations.proofs.duration.part_at.Statement.{statement}
 use Rattle.durations.proofs.duration.part_at.Tie as tie
 
-digits-end-requires : tie.Need-digits-end-requires
-digits-end-requires c κs = search needs
-
 returns : tie.Need-returns
 returns c = sym (part-none _ _ _ (c .before .digits-end .ensures) (c .if1 .taken))
 
-add-if2 : tie.Need-add-if2
-add-if2 c = search needs
-
 returns-2 : tie.Need-returns-2
 returns-2 c = sym (part-long _ _ _ (c .before .before .digits-end .ensures) (omega arith))
-
-class-end-requires : tie.Need-class-end-requires
-class-end-requires c κs = search needs
-
-unit-end-requires : tie.Need-unit-end-requires
-unit-end-requires c κs = search needs
-
-time-unit-requires : tie.Need-time-unit-requires
-time-unit-requires c κs = search needs
 
 -- within the word, the digits end no earlier than they begin, and the unit's name no earlier than it begins, after blanks
 ends : (c : tie.After-unit-end) →
@@ -71,9 +56,6 @@ array-share-prefix-name c = in-name (c .before .before)
 slice-aggregate-eq : tie.Need-slice-aggregate-eq
 slice-aggregate-eq c = sym (length-take-le _ _ (in-name (c .before .before .before)))
 
-eq-requires : tie.Need-eq-requires
-eq-requires c κs = search needs
-
 -- what is compared is the name in the word and the unit's
 named : (c : tie.After-eq) →
     let u = c .before .before .before .before .before in
@@ -81,9 +63,6 @@ named : (c : tie.After-eq) →
     c .eq .result ≡ equal (part (entry .word .now) (u .before .class-end .result) (u .unit-end .result)) (unitAt (entry .rank) .name)
 unfolding part
 named c = c .eq .ensures ∙ ap (equal _) (c .before .before .before .before .time-unit .ensures .name)
-
-class-end-requires-2 : tie.Need-class-end-requires-2
-class-end-requires-2 c κs = search needs
 
 decimal-of-requires : tie.Need-decimal-of-requires
 decimal-of-requires c κs =
@@ -120,20 +99,20 @@ pub part-at-spec : {M : Type 1} → statement M
 part-at-spec =
     tie.close
     (tie.spec
-    digits-end-requires
+    (λ c κs. search needs)  -- digits-end-requires
     returns
-    add-if2
+    (λ c. search needs)  -- add-if2
     returns-2
-    class-end-requires
-    unit-end-requires
-    time-unit-requires
+    (λ c κs. search needs)  -- class-end-requires
+    (λ c κs. search needs)  -- unit-end-requires
+    (λ c κs. search needs)  -- time-unit-requires
     sub-eq
     part-eq-start
     part-eq-end
     array-share-prefix-name
     slice-aggregate-eq
-    eq-requires
-    class-end-requires-2
+    (λ c κs. search needs)  -- eq-requires
+    (λ c κs. search needs)  -- class-end-requires-2
     decimal-of-requires
     mul-t21
     returns-3
