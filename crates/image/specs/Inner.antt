@@ -1,3 +1,4 @@
+pub mod Leaves
 pub mod Standing
 pub mod Valid
 pub mod Subtree

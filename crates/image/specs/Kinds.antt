@@ -1,7 +1,5 @@
 -- The kinds of nodes, as document 01's 'Rule image' numbers them. Assumes nothing.
 use Prim.Native.Nat.{ℕ}
-use mathlib.Core.Bool.{Bool}
-use lib.Dec.{leb}
 
 -- "Kinds: 0 named, 1 older_than, 2 readable"
 abbrev pub namedKind : ℕ
@@ -22,7 +20,3 @@ allKind = 4
 
 abbrev pub anyKind : ℕ
 anyKind = 5
-
--- whether a node of this kind is a leaf
-unfoldable pub isLeaf : ℕ → Bool
-isLeaf kind = leb kind readableKind

@@ -14,6 +14,7 @@ use Rattle.store_table.specs.Names.{has}
 use Rattle.evaluate.specs.Evict.{World, leafSays, yeses, joinSays}
 use Rattle.evaluate.proofs.Laws.JoinLaws.{says-atLeast, says-all, says-any}
 
+-- the combinator that an argument of 0 makes
 argument-join : (a : ℕ) (i j : Join) → argument0 a i ≡ aJoin j → j ≡ i
 argument-join zero i j e = cc
 argument-join (suc a) i j e = let z : _≡_ {A = ℕ} 0 1 = cc in absurd (omega arith)

@@ -9,9 +9,10 @@ use native.Mathlib.Omega.{arith}
 use lib.Dec.{leb, eqb}
 use borrow.Author.Tests.{lt-leb, eq-eqb, ne-eqb}
 use Rattle.rules.specs.Rule.{Leaf, named, olderThan, readable, Join, atLeast, all, any, Rule, leaf, Rules, nil, more, size, sizes}
-use Rattle.image.specs.Kinds.{readableKind, atLeastKind, anyKind, isLeaf}
+use Rattle.image.specs.Kinds.{readableKind, atLeastKind, anyKind}
 use Rattle.image.specs.Layout.{nameOf}
 use Rattle.image.specs.Decode.{when, bind, isSome, Node, nodeAt, Meaning, aLeaf, aJoin, nothing, argument0, meaning, Cell, cellAt, split, close, place, build, only}
+use Rattle.image.specs.Inner.Leaves.{isLeaf}
 use Rattle.image.specs.Inner.Standing.{Stands, StandAll}
 use Rattle.image.proofs.Laws.StandingLaws.{root-size, Built, built}
 use Rattle.image.proofs.Laws.EncodeLaws.{size-pos}

@@ -6,9 +6,10 @@ use Prim.Native.Nat.{ℕ, zero, suc, _≤_, _<_}
 use native.Mathlib.Omega.{arith}
 use borrow.Author.Tests.{leb-true, leb-false, lt-leb}
 use Rattle.rules.specs.Rule.{Leaf, named, olderThan, readable, Join, atLeast, all, any}
-use Rattle.image.specs.Kinds.{namedKind, readableKind, atLeastKind, anyKind, isLeaf}
+use Rattle.image.specs.Kinds.{namedKind, readableKind, atLeastKind, anyKind}
 use Rattle.image.specs.Encode.{leafKind, joinKind, joinArg}
 use Rattle.image.specs.Decode.{Meaning, aLeaf, aJoin, nothing, meaning}
+use Rattle.image.specs.Inner.Leaves.{isLeaf}
 
 -- ---- kinds of leaves, and others
 pub leaf-low : (k : ℕ) → isLeaf k ≡ true → k ≤ readableKind
@@ -52,7 +53,7 @@ says s n (suc (suc (suc (suc (suc zero))))) zero = (refl, refl)
 says s n (suc (suc (suc (suc (suc zero))))) (suc a) = tt
 says s n (suc (suc (suc (suc (suc (suc k)))))) a = tt
 
--- ---- no leaf's, no combinator's, no name's
+-- ---- no leaf, no combinator, no name
 abbrev pub NoLeaf : Meaning → Type 0
 NoLeaf m = (l : Leaf) → m ≡ aLeaf l → ⊥
 

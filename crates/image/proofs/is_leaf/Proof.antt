@@ -1,6 +1,6 @@
 -- `image::is_leaf` meets its contract. Assumes nothing.
 use mathlib.Core.Path.{refl}
-use Rattle.image.specs.Kinds.{isLeaf}
+use Rattle.image.specs.Inner.Leaves.{isLeaf}
 use Rattle.image.proofs.is_leaf.Statement.{statement}
 use Rattle.image.proofs.is_leaf.Tie as tie
 

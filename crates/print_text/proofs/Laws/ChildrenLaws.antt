@@ -8,7 +8,7 @@ use lib.Dec.{eqb}
 use lib.ListN.{length, length-append}
 use borrow.Author.Tests.{eq-eqb, ne-eqb}
 use Rattle.rules.specs.Rule.{Join, Rule, leaf, node, Rules, nil, more, size, sizes}
-use Rattle.image.specs.Kinds.{isLeaf}
+use Rattle.image.specs.Inner.Leaves.{isLeaf}
 use Rattle.image.specs.Encode.{joinKind}
 use Rattle.image.specs.Decode.{Node, nodeAt, meaning, cellAt}
 use Rattle.image.proofs.Laws.FitLaws.{cell-size}

@@ -6,13 +6,14 @@ use Prim.Native.Nat.{ℕ, zero, suc, _+_, _/_, _%_, _≤_}
 use native.Mathlib.Omega.{arith}
 use lib.Dec.{eqb}
 use lib.ListN.{length, drop, length-append, length-take}
+use borrow.Author.Tests.{eqb-true, ne-eqb}
 use Rattle.slices.specs.Text.{bytes}
 use Rattle.rules.specs.Rule.{named, olderThan, readable, Join, atLeast, all, any, Rule, leaf, node, size, sizes}
-use borrow.Author.Tests.{eqb-true, ne-eqb}
-use Rattle.image.specs.Kinds.{atLeastKind, allKind, anyKind, isLeaf}
+use Rattle.image.specs.Kinds.{atLeastKind, allKind, anyKind}
 use Rattle.image.specs.Layout.{namesStart}
 use Rattle.image.specs.Encode.{leafKind, joinKind, joinArg}
 use Rattle.image.specs.Decode.{Meaning, aLeaf, aJoin, nothing, meaning, Cell}
+use Rattle.image.specs.Inner.Leaves.{isLeaf}
 use Rattle.image.specs.Inner.Standing.{Stands}
 use Rattle.image.proofs.Laws.KindLaws.{above-leaf, says, NoLeaf, no-leaf}
 use Rattle.print_text.specs.Print.{opening, behind, isAny, bracketed, bracket, childText}
