@@ -1,3 +1,4 @@
 pub mod ArrayLaws
 pub mod ChainLaws
 pub mod ParseLaws
+pub mod WriteLaws

@@ -1,13 +1,20 @@
-// Nodes and name bytes as the parser writes them into its arrays, and which nodes a chain keeps.
+// Nodes and name bytes as the parser writes them into its arrays.
 ghost use mathlib.Core.Path.{_≡_};
-ghost use mathlib.Core.List.{_++_};
-ghost use Prim.Native.Nat.{_+_, _-_, _≤_, _<_, _%_};
-ghost use lib.Dec.{eqb};
-ghost use lib.ListN.{length, getD, set, take};
+ghost use mathlib.Core.List.{List, _++_};
+ghost use Prim.Native.Nat.{ℕ, _+_, _-_, _≤_, _<_};
+ghost use lib.ListN.{length, set, take};
 ghost use Rattle.slices.specs.Text.{part};
 ghost use Rattle.refusals.specs.Refusals.{refusal};
+ghost use Rattle.rules.specs.Rule.{named};
 ghost use Rattle.image.specs.Encode.{tag};
-ghost use Rattle.nodes.specs.Inner.Parses.{keepIf};
+ghost use Rattle.grammar.specs.Inner.Heads.{leafOf, joinOf};
+ghost use Rattle.nodes.specs.Inner.Parses.{arrays, NameRoom, Written, JoinRoom, Joined};
+use grammar::Combinator;
+use grammar::Test;
+use grammar::combinator_arg;
+use grammar::combinator_kind;
+use grammar::test_arg;
+use grammar::test_kind;
 use refusals::Refusal;
 
 // Where the text goes on, and how many nodes and name bytes stand; or a refusal.
@@ -22,16 +29,8 @@ pub fn refuse(number: u8, place: usize) -> Reach
     Reach::Refused(Refusal { number, place })
 }
 
-// How many of n nodes stay where a chain goes on: the last one goes where it is of the chain's kind.
-pub fn kept(tags: &[u32], n: usize, kind: u32) -> usize
-    requires { ⌜ (0 < n) × (n ≤ length (now tags)) ⌝ }
-    ensures { λ r. ⌜ (r ≡ keepIf (eqb (getD (now (tags .entry)) (n - 1) 0 % 256) kind) n) × ((r ≤ n) × (n ≤ r + 1)) ⌝ }
-{
-    if tags[n - 1] % 256 == kind { n - 1 } else { n }
-}
-
 // Writes node n: its kind, how many nodes it counts, its argument.
-pub fn push(tags: &mut [u32], args: &mut [u64], n: usize, kind: u32, size: usize, arg: u64)
+fn push(tags: &mut [u32], args: &mut [u64], n: usize, kind: u32, size: usize, arg: u64)
     requires { ⌜ (n < length (now tags)) × ((n < length (now args)) × ((kind < 256) × (size ≤ 65536))) ⌝ }
     ensures { λ _. ⌜ (now (tags .exit) ≡ set (now (tags .entry)) n (tag kind size)) × (now (args .exit) ≡ set (now (args .entry)) n arg) ⌝ }
 {
@@ -40,7 +39,7 @@ pub fn push(tags: &mut [u32], args: &mut [u64], n: usize, kind: u32, size: usize
 }
 
 // Writes a name, a part of the text, behind the first m name bytes.
-pub fn put_name(text: &[u8], start: usize, end: usize, names: &mut [u8], m: usize)
+fn put_name(text: &[u8], start: usize, end: usize, names: &mut [u8], m: usize)
     requires { ⌜ (start ≤ end) × ((end ≤ length (now text)) × (m + (end - start) ≤ length (now names))) ⌝ }
     ensures { λ _. ⌜ take (m + (end - start)) (now (names .exit)) ≡ take m (now (names .entry)) ++ part (now (text .entry)) start end ⌝ }
 {
@@ -51,4 +50,69 @@ pub fn put_name(text: &[u8], start: usize, end: usize, names: &mut [u8], m: usiz
         i += 1;
         j += 1;
     }
+}
+
+// Writes a name's node after the first n, and the name, a part of the text, after the first m name bytes.
+pub fn push_name(
+    text: &[u8],
+    start: usize,
+    end: usize,
+    next: usize,
+    tags: &mut [u32],
+    args: &mut [u64],
+    names: &mut [u8],
+    n: usize,
+    m: usize,
+) -> Reach
+    requires { ⌜ NameRoom (now text) start end n m (arrays (now tags) (now args) (now names)) ⌝ }
+    ensures { λ r. ⌜ Written (named (part (now (text .entry)) start end)) next n m (arrays (now (tags .entry)) (now (args .entry)) (now (names .entry))) (arrays (now (tags .exit)) (now (args .exit)) (now (names .exit))) r ⌝ }
+{
+    let size = end - start;
+    put_name(text, start, end, names, m);
+    push(
+        tags,
+        args,
+        n,
+        image::NAMED,
+        1,
+        (m as u64) * 65536 + (size as u64),
+    );
+    Reach::Done {
+        next,
+        n: n + 1,
+        m: m + size,
+    }
+}
+
+// Writes the node of a leaf that is no name after the first n; the names, whatever they are, stay as they are.
+pub fn push_test(
+    test: Test,
+    next: usize,
+    tags: &mut [u32],
+    args: &mut [u64],
+    n: usize,
+    m: usize,
+) -> Reach
+    requires { ⌜ (n < length (now tags)) × (n < length (now args)) ⌝ }
+    ensures { λ r. ⌜ ((w : List ℕ) → Written (leafOf test) next n m (arrays (now (tags .entry)) (now (args .entry)) w) (arrays (now (tags .exit)) (now (args .exit)) w) r) ⌝ }
+{
+    push(tags, args, n, test_kind(test), 1, test_arg(test));
+    Reach::Done { next, n: n + 1, m }
+}
+
+// Writes a combinator's node after the first n, over those from `first` on, and answers how many there are then.
+pub fn push_combinator(
+    tags: &mut [u32],
+    args: &mut [u64],
+    first: usize,
+    n: usize,
+    combinator: Combinator,
+) -> usize
+    requires { ⌜ JoinRoom first n (now tags) (now args) ⌝ }
+    ensures { λ r. ⌜ (r ≡ n + 1) × Joined (joinOf combinator) first n (now (tags .entry)) (now (args .entry)) (now (tags .exit)) (now (args .exit)) ⌝ }
+{
+    let kind = combinator_kind(combinator);
+    let arg = combinator_arg(combinator);
+    push(tags, args, n, kind, n - first + 1, arg);
+    n + 1
 }

@@ -5,23 +5,20 @@ ghost use Rattle.tokens.specs.Token.{tokensFrom};
 ghost use Rattle.grammar.specs.Grammar.{orIn, andIn, primaryIn};
 ghost use Rattle.grammar.specs.Inner.Heads.{left};
 ghost use Rattle.nodes.specs.Inner.Parses.{arrays, Before, Parsed};
+use endings::Argument;
+use endings::Operand;
+use endings::close_group;
+use endings::close_list;
+use endings::first_argument;
+use endings::next_argument;
+use endings::next_operand;
+use grammar::Combinator;
 use grammar::Head;
-use grammar::combinator_arg;
-use grammar::combinator_kind;
-use grammar::test_arg;
-use grammar::test_kind;
 use heads::head_at;
 use nodes::Reach;
-use nodes::kept;
-use nodes::push;
-use nodes::put_name;
-use nodes::refuse;
-use signs::bracket_at;
-use signs::place_of;
-use signs::sign_at;
-use tokens::Next;
-use tokens::Token;
-use tokens::token_at;
+use nodes::push_combinator;
+use nodes::push_name;
+use nodes::push_test;
 
 // or: and-expressions, joined by or-signs.
 pub fn parse_or(
@@ -51,14 +48,21 @@ pub fn parse_or(
     let mut n1 = k;
     let mut m1 = q;
     loop {
-        let Next::To(next) = sign_at(text, at1, classes::BAR, class) else {
+        let Operand::At { next, n: stay } = next_operand(
+            text,
+            at1,
+            classes::BAR,
+            tags,
+            n1,
+            image::ANY,
+            class,
+        ) else {
             return Reach::Done {
                 next: at1,
                 n: n1,
                 m: m1,
             };
         };
-        let stay = kept(tags, n1, image::ANY);
         let right = parse_and(text, next, depth, tags, args, names, stay, m1, class);
         let Reach::Done {
             next: e2,
@@ -68,9 +72,8 @@ pub fn parse_or(
         else {
             return right;
         };
-        push(tags, args, n2, image::ANY, n2 - n + 1, 0);
         at1 = e2;
-        n1 = n2 + 1;
+        n1 = push_combinator(tags, args, n, n2, Combinator::Any);
         m1 = m2;
     }
 }
@@ -103,14 +106,21 @@ pub fn parse_and(
     let mut n1 = k;
     let mut m1 = q;
     loop {
-        let Next::To(next) = sign_at(text, at1, classes::AMPERSAND, class) else {
+        let Operand::At { next, n: stay } = next_operand(
+            text,
+            at1,
+            classes::AMPERSAND,
+            tags,
+            n1,
+            image::ALL,
+            class,
+        ) else {
             return Reach::Done {
                 next: at1,
                 n: n1,
                 m: m1,
             };
         };
-        let stay = kept(tags, n1, image::ALL);
         let right = parse_primary(text, next, depth, tags, args, names, stay, m1, class);
         let Reach::Done {
             next: e2,
@@ -120,9 +130,8 @@ pub fn parse_and(
         else {
             return right;
         };
-        push(tags, args, n2, image::ALL, n2 - n + 1, 0);
         at1 = e2;
-        n1 = n2 + 1;
+        n1 = push_combinator(tags, args, n, n2, Combinator::All);
         m1 = m2;
     }
 }
@@ -144,48 +153,27 @@ pub fn parse_primary(
 {
     match head_at(text, at, depth, class) {
         Head::Refused(f) => Reach::Refused(f),
-        Head::Name { start, end, next } => {
-            put_name(text, start, end, names, m);
-            push(
-                tags,
-                args,
-                n,
-                image::NAMED,
-                1,
-                (m as u64) * 65536 + ((end - start) as u64),
-            );
-            Reach::Done {
-                next,
-                n: n + 1,
-                m: m + (end - start),
-            }
-        }
-        Head::Leaf { test, next } => {
-            push(tags, args, n, test_kind(test), 1, test_arg(test));
-            Reach::Done { next, n: n + 1, m }
-        }
+        Head::Name { start, end, next } => push_name(
+            text,
+            start,
+            end,
+            next,
+            tags,
+            args,
+            names,
+            n,
+            m,
+        ),
+        Head::Leaf { test, next } => push_test(test, next, tags, args, n, m),
         Head::Group { next } => {
             let inner = parse_or(text, next, depth + 1, tags, args, names, n, m, class);
-            let Reach::Done {
-                next: e,
-                n: n1,
-                m: m1,
-            } = inner
-            else {
-                return inner;
-            };
-            let shut = token_at(text, e, class);
-            let Token::Close {
-                place: _,
-                next: after,
-            } = shut
-            else {
-                return refuse(refusals::OPEN_BRACKET, place_of(shut));
-            };
-            Reach::Done {
-                next: after,
-                n: n1,
-                m: m1,
+            match inner {
+                Reach::Refused(f) => Reach::Refused(f),
+                Reach::Done {
+                    next: e,
+                    n: n1,
+                    m: m1,
+                } => close_group(text, e, n1, m1, class),
             }
         }
         Head::List {
@@ -193,52 +181,19 @@ pub fn parse_primary(
             place,
             next,
         } => {
-            if let Next::To(_) = bracket_at(text, next, classes::CLOSE, class) {
-                return refuse(refusals::EMPTY_LIST, place);
-            }
-            let mut at1 = next;
-            let mut n1 = n;
-            let mut m1 = m;
+            let mut argument = first_argument(text, place, next, n, m, class);
             loop {
-                let item = parse_or(text, at1, depth + 1, tags, args, names, n1, m1, class);
-                let Reach::Done {
-                    next: e,
-                    n: k,
-                    m: q,
-                } = item
-                else {
-                    return item;
-                };
-                let sign = token_at(text, e, class);
-                match sign {
-                    Token::Comma {
-                        place: _,
-                        next: after,
+                match argument {
+                    Argument::At {
+                        next: at1,
+                        n: n1,
+                        m: m1,
                     } => {
-                        at1 = after;
-                        n1 = k;
-                        m1 = q;
+                        let read = parse_or(text, at1, depth + 1, tags, args, names, n1, m1, class);
+                        argument = next_argument(text, read, class);
                     }
-                    Token::Close {
-                        place: _,
-                        next: after,
-                    } => {
-                        push(
-                            tags,
-                            args,
-                            k,
-                            combinator_kind(combinator),
-                            k - n + 1,
-                            combinator_arg(combinator),
-                        );
-                        return Reach::Done {
-                            next: after,
-                            n: k + 1,
-                            m: q,
-                        };
-                    }
-                    _ => {
-                        return refuse(refusals::OPEN_BRACKET, place_of(sign));
+                    Argument::End(all) => {
+                        return close_list(tags, args, n, combinator, all);
                     }
                 }
             }

@@ -12,7 +12,7 @@ use Rattle.rules.specs.Rule.{named, olderThan, readable, Join, atLeast, all, an
 use Rattle.image.specs.Encode.{leafKind, joinKind, tag, joinArg, tags, tagsAll, args, argsAll, names, namesAll}
 use Rattle.image.proofs.Laws.EncodeLaws.{leaf-kind, join-kind, length-tags, length-tagsAll}
 use Rattle.grammar.specs.Grammar.{leftRules, chain}
-use Rattle.nodes.specs.Inner.Parses.{Arrays, Holds, keepIf}
+use Rattle.nodes.specs.Inner.Parses.{Arrays, Holds, Joined, keepIf}
 use Rattle.nodes.proofs.Laws.ArrayLaws.{unsnoc, last-is, holds-as, holds-join, holds-push}
 
 -- the kind of a rule's root, its tag, and what stands before it
@@ -44,10 +44,6 @@ root-kind (node j rs r) = tag-kind (joinKind j) (suc (sizes rs + size r)) (join-
 pub data Chains : Join → Type 0 where
   by-all : Chains all
   by-any : Chains any
-
-chain-arg : {j : Join} → Chains j → joinArg j ≡ 0
-chain-arg by-all = refl
-chain-arg by-any = refl
 
 -- it is of the chain's kind and gives its children, or it is of another and is a child itself
 data Left (j : Join) : Rule → Type 0 where
@@ -108,16 +104,16 @@ pub chained : {j : Join} → Chains j → (l r : Rule) {b a c e : Arrays} {n m n
     → k ≡ keepIf (eqb (getD (a .tags) (n₁ - 1) 0 % 256) (joinKind j)) n₁
     → Holds a c k m₁ n₂ m₂ (tags r) (args r m₁) (names r)
     → n₂ < length (c .tags) → n₂ < length (c .args)
-    → e .tags ≡ set (c .tags) n₂ (tag (joinKind j) (n₂ - n + 1)) → e .args ≡ set (c .args) n₂ 0 → e .names ≡ c .names
+    → Joined j n n₂ (c .tags) (c .args) (e .tags) (e .args) → e .names ≡ c .names
     → Holds b e n m (n₂ + 1) m₂ (tags (chain j l r)) (args (chain j l r) m) (names (chain j l r))
 unfolding chain tags args names
-chained {j} ck l r {b} {a} {c} {e} {n} {m} {n₁} {m₁} {k} {n₂} {m₂} h lt la q g lc lca p₁ p₂ p₃ =
+chained {j} ck l r {b} {a} {c} {e} {n} {m} {n₁} {m₁} {k} {n₂} {m₂} h lt la q g lc lca p p₃ =
     let u = kept-as lt la (left-of ck l) h q in
     let v = holds-join u g in
-    let w = holds-push v (tag (joinKind j) (n₂ - n + 1)) 0 lc lca p₁ p₂ p₃ in
+    let w = holds-push v (tag (joinKind j) (n₂ - n + 1)) (joinArg j) lc lca (p .tags) (p .args) p₃ in
     let rs : Rules = leftRules j l in
     let sz : n₂ - n + 1 ≡ suc (sizes rs + size r) = omega (arith, v .more-tags, length-append (tagsAll rs) (tags r), length-tagsAll rs, length-tags r) in
     holds-as w
     (ap (λ (x : ℕ). (tagsAll rs ++ tags r) ++ tag (joinKind j) x ∷ []) sz)
-    (ap (λ (x : ℕ). (argsAll rs m ++ args r x) ++ 0 ∷ []) (u .more-names) ∙ ap (λ (x : ℕ). (argsAll rs m ++ args r (m + length (namesAll rs))) ++ x ∷ []) (sym (chain-arg ck)))
+    (ap (λ (x : ℕ). (argsAll rs m ++ args r x) ++ joinArg j ∷ []) (u .more-names))
     refl

@@ -17,7 +17,7 @@ use Rattle.image.specs.Encode.{leafKind, joinKind, tag, leafArg, joinArg, leafN
 use Rattle.image.proofs.Laws.EncodeLaws.{length-tags, length-tagsAll}
 use Rattle.grammar.specs.Grammar.{Rest, rest, missing, after, andSign, orSign, commaSign, closeSign, firstPlace, aLeaf, aGroup, aList, refused, headIn, chain, Got, got, bad, onto, onRest, closeAfter, orIn, orMore, andIn, andMore, primaryIn, listMore}
 use Rattle.grammar.specs.Inner.Heads.{left, leafOf}
-use Rattle.nodes.specs.Inner.Parses.{Arrays, Long, Holds, Read, Parsed, keepIf}
+use Rattle.nodes.specs.Inner.Parses.{Arrays, arrays, Long, Holds, Read, Parsed, Written, Joined, keepIf}
 use Rattle.nodes.proofs.Laws.ArrayLaws.{snoc, holds-as, holds-join, holds-push, holds-none, front, rebased}
 use Rattle.nodes.proofs.Laws.ChainLaws.{Chains, by-all, by-any, chained}
 use Rattle.grammar.specs.declared.Test.{Test}
@@ -27,13 +27,13 @@ use Rattle.nodes.specs.declared.Reach.the-variants.{Done, Refused}
 
 -- ---- an answer, by its case
 module _ {G : ℕ → Got} {need : ℕ} {s : List ℕ} {at n m : ℕ} {b a : Arrays} where
-  pub gave-done : {e n₁ m₁ : ℕ} → Read G need s at n m b a e n₁ m₁ → Parsed G need s at n m b a (Done e n₁ m₁)
-  gave-done {e} {n₁} {m₁} r = record {
+  pub gave-done : {r : Reach} {e n₁ m₁ : ℕ} → r ≡ Done e n₁ m₁ → Read G need s at n m b a e n₁ m₁ → Parsed G need s at n m b a r
+  gave-done {r} {e} {n₁} {m₁} h read = record {
     done = λ e′ n′ m′ q.
         let qe : e ≡ e′ = cc in
         let qn : n₁ ≡ n′ = cc in
         let qm : m₁ ≡ m′ = cc in
-        subst (λ (i : ℕ). Read G need s at n m b a e′ n′ i) qm (subst (λ (i : ℕ). Read G need s at n m b a e′ i m₁) qn (subst (λ (i : ℕ). Read G need s at n m b a i n₁ m₁) qe r));
+        subst (λ (i : ℕ). Read G need s at n m b a e′ n′ i) qm (subst (λ (i : ℕ). Read G need s at n m b a e′ i m₁) qn (subst (λ (i : ℕ). Read G need s at n m b a i n₁ m₁) qe read));
     refused = λ x q. let z : _≡_ {A = ℕ} 0 1 = cc in absurd (omega arith);
   }
 
@@ -144,9 +144,9 @@ module _ {s : List ℕ} {G : ℕ → Got} {More : ℕ → Got → Got} {Op : ℕ
         → (k ≡ keepIf (eqb (getD (a .tags) (n₁ - 1) 0 % 256) (joinKind j)) n₁) × ((k ≤ n₁) × (n₁ ≤ k + 1))
         → need₂ ≤ 3 * left s y + 2
         → Read (λ (f : ℕ). Op f y) need₂ s y k m₁ a a₂ e₂ n₂ m₂
-        → Long cap a₂ → n₂ < cap → a₃ .tags ≡ set (a₂ .tags) n₂ (tag (joinKind j) (n₂ - n + 1)) → a₃ .args ≡ set (a₂ .args) n₂ 0 → a₃ .names ≡ a₂ .names
+        → Long cap a₂ → n₂ < cap → Joined j n n₂ (a₂ .tags) (a₂ .args) (a₃ .tags) (a₃ .args) → a₃ .names ≡ a₂ .names
         → Sofar G More need s at n m cap b a₃ e₂ (n₂ + 1) m₂
-    turn {need} {need₂} {n} {m} {cap} {b} {a} {a₂} {a₃} {n₁} {m₁} {k} {e₂} {n₂} {m₂} ey fits lb l keeps enough r la lt p₁ p₂ p₃ = record {
+    turn {need} {need₂} {n} {m} {cap} {b} {a} {a₂} {a₃} {n₁} {m₁} {k} {e₂} {n₂} {m₂} ey fits lb l keeps enough r la lt p p₃ = record {
       tree = chain j (l .tree) (r .tree);
       says = λ f h. let u = l .says f h in let v = says₂ (u .0) (u .1) in (v .0, v .1, u .2 ∙ v .2);
       on = omega (arith, l .on, r .on);
@@ -155,10 +155,10 @@ module _ {s : List ℕ} {G : ℕ → Got} {More : ℕ → Got → Got} {Op : ℕ
       some = omega (arith, l .some, r .some, keeps);
       room = omega (arith, l .room, r .room, keeps);
       width = omega (arith, l .width, r .width);
-      holds = chained (L .chains) (l .tree) (r .tree) (l .holds) (omega (arith, lb)) (omega (arith, lb)) (keeps .0) (r .holds) (omega (arith, la)) (omega (arith, la)) p₁ p₂ p₃;
+      holds = chained (L .chains) (l .tree) (r .tree) (l .holds) (omega (arith, lb)) (omega (arith, lb)) (keeps .0) (r .holds) (omega (arith, la)) (omega (arith, la)) p p₃;
       long = record {
-        tags = ap length p₁ ∙ length-set (a₂ .tags) n₂ (tag (joinKind j) (n₂ - n + 1)) ∙ la .tags;
-        args = ap length p₂ ∙ length-set (a₂ .args) n₂ 0 ∙ la .args;
+        tags = ap length (p .tags) ∙ length-set (a₂ .tags) n₂ (tag (joinKind j) (n₂ - n + 1)) ∙ la .tags;
+        args = ap length (p .args) ∙ length-set (a₂ .args) n₂ (joinArg j) ∙ la .args;
         names = ap length p₃ ∙ la .names;
       };
     }
@@ -203,16 +203,12 @@ module _ (s : List ℕ) (d at : ℕ) where
   head-leaf q zero le = absurd (omega arith)
   head-leaf q (suc f) le = rw q
 
-  -- a leaf's node is written, and its name if it has one
-  pub leafed : (l : Leaf) {cap e n m m₁ : ℕ} {b a : Arrays} → headIn s d (tokensFrom s at) ≡ aLeaf l (tokensFrom s e)
-      → (at < e) × (e ≤ length s) × (left s e < left s at) → m₁ + at ≤ m + e → Long cap b → n < cap
-      → a .tags ≡ set (b .tags) n (tag (leafKind l) 1) → a .args ≡ set (b .args) n (leafArg l m)
-      → take m₁ (a .names) ≡ take m (b .names) ++ leafName l → m₁ ≡ m + length (leafName l)
-      → Read (λ (f : ℕ). primaryIn f s d (tokensFrom s at)) (3 * left s at + 1) s at n m b a e (n + 1) m₁
-  unfolding tags args names
-  leafed l {cap} {e} {n} {m} {m₁} {b} {a} q h wd lb lt p₁ p₂ p₃ p₄ =
-      let none = holds-none {b = b} {n = n} {m = m} in
-      record {
+  -- a leaf's node was written, and its name if it has one
+  pub leaf-read : (l : Leaf) {e n m : ℕ} {b a : Arrays} {r : Reach} → headIn s d (tokensFrom s at) ≡ aLeaf l (tokensFrom s e)
+      → (at < e) × (e ≤ length s) × (left s e < left s at) → length (leafName l) + at ≤ e → Written l e n m b a r
+      → Parsed (λ (f : ℕ). primaryIn f s d (tokensFrom s at)) (3 * left s at + 1) s at n m b a r
+  leaf-read l q h short w =
+      gave-done (w .reached) record {
         tree = leaf l;
         says = head-leaf q;
         on = h .0;
@@ -220,36 +216,9 @@ module _ (s : List ℕ) (d at : ℕ) where
         fewer = h .2;
         some = omega arith;
         room = omega arith;
-        width = wd;
-        holds = record {
-          tags = snoc (b .tags) (b .tags) (a .tags) [] n n (tag (leafKind l) 1) (none .tags) (omega (arith, lb)) p₁;
-          args = snoc (b .args) (b .args) (a .args) [] n n (leafArg l m) (none .args) (omega (arith, lb)) p₂;
-          names = p₃;
-          more-tags = refl;
-          more-args = refl;
-          more-names = p₄;
-        };
+        width = omega arith;
+        holds = w .holds;
       }
-
-  -- the same of a leaf that is no name
-  pub tested : (t : Test) {cap e n m : ℕ} {b a : Arrays} → headIn s d (tokensFrom s at) ≡ aLeaf (leafOf t) (tokensFrom s e)
-      → (at < e) × (e ≤ length s) × (left s e < left s at) → Long cap b → n < cap
-      → {k x : ℕ} → k ≡ leafKind (leafOf t) → x ≡ leafArg (leafOf t) 0 → a .tags ≡ set (b .tags) n (tag k 1) → a .args ≡ set (b .args) n x → a .names ≡ b .names
-      → Read (λ (f : ℕ). primaryIn f s d (tokensFrom s at)) (3 * left s at + 1) s at n m b a e (n + 1) m
-  tested (OlderThan i) {n = n} {m = m} {b = b} q h lb lt qk qx p₁ p₂ p₃ =
-      leafed (olderThan i) q h (omega arith) lb lt (p₁ ∙ ap (λ (k : ℕ). set (b .tags) n (tag k 1)) qk) (p₂ ∙ ap (set (b .args) n) qx) (ap (take m) p₃ ∙ sym (append-nil (take m (b .names)))) (omega arith)
-  tested (Readable i) {n = n} {m = m} {b = b} q h lb lt qk qx p₁ p₂ p₃ =
-      leafed (readable i) q h (omega arith) lb lt (p₁ ∙ ap (λ (k : ℕ). set (b .tags) n (tag k 1)) qk) (p₂ ∙ ap (set (b .args) n) qx) (ap (take m) p₃ ∙ sym (append-nil (take m (b .names)))) (omega arith)
-
-  -- and of a name
-  pub named-part : {cap e n m from to : ℕ} {b a : Arrays} → headIn s d (tokensFrom s at) ≡ aLeaf (named (part s from to)) (tokensFrom s e)
-      → (at < e) × (e ≤ length s) × (left s e < left s at) → (at ≤ from) × (from ≤ to) × (to ≤ e) → Long cap b → n < cap
-      → a .tags ≡ set (b .tags) n (tag 0 1) → a .args ≡ set (b .args) n (m * 65536 + (to - from))
-      → take (m + (to - from)) (a .names) ≡ take m (b .names) ++ part s from to
-      → Read (λ (f : ℕ). primaryIn f s d (tokensFrom s at)) (3 * left s at + 1) s at n m b a e (n + 1) (m + (to - from))
-  named-part {n = n} {m = m} {from = from} {to = to} {b = b} q h i lb lt p₁ p₂ p₃ =
-      let long = part-length s from to (omega arith) (omega arith) in
-      leafed (named (part s from to)) q h (omega arith) lb lt p₁ (p₂ ∙ ap (λ (x : ℕ). set (b .args) n (m * 65536 + x)) (sym long)) p₃ (ap (λ (x : ℕ). m + x) (sym long))
 
   -- a bracket, with the text going on at e₀
   module _ {e₀ : ℕ} (q : headIn s d (tokensFrom s at) ≡ aGroup (tokensFrom s e₀)) (h : (at < e₀) × (e₀ ≤ length s) × (left s e₀ < left s at)) where
@@ -366,10 +335,10 @@ module _ (s : List ℕ) (d at : ℕ) (j : Join) where
       }
 
       pub list-stop : {a₃ : Arrays} {y : ℕ} → after commaSign (tokensFrom s e₂) ≡ missing → after closeSign (tokensFrom s e₂) ≡ rest (tokensFrom s y) → (e₂ < y) × (y ≤ length s) × (left s y < left s e₂) → Long cap a₂ → n₂ < cap
-          → {k x : ℕ} → k ≡ joinKind j → x ≡ joinArg j → a₃ .tags ≡ set (a₂ .tags) n₂ (tag k (n₂ - n + 1)) → a₃ .args ≡ set (a₂ .args) n₂ x → a₃ .names ≡ a₂ .names
+          → Joined j n n₂ (a₂ .tags) (a₂ .args) (a₃ .tags) (a₃ .args) → a₃ .names ≡ a₂ .names
           → Read (λ (f : ℕ). primaryIn f s d (tokensFrom s at)) (3 * left s at + 1) s at n m b a₃ y (n₂ + 1) m₂
       unfolding listMore tags args names
-      list-stop c o w la lt qk qx p₁ p₂ p₃ =
+      list-stop c o w la lt p p₃ =
           let rs : Rules = l .rules in
           let t : Rule = r .tree in
           let sz : n₂ - n + 1 ≡ suc (sizes rs + size t) = omega (arith, joined .more-tags, length-append (tagsAll rs) (tags t), length-tagsAll rs, length-tags t) in
@@ -382,5 +351,5 @@ module _ (s : List ℕ) (d at : ℕ) (j : Join) where
             some = omega (arith, l .some, r .some);
             room = omega (arith, l .room, r .room);
             width = omega (arith, l .width, r .width);
-            holds = holds-as (holds-push joined (tag (joinKind j) (n₂ - n + 1)) (joinArg j) (omega (arith, la)) (omega (arith, la)) (p₁ ∙ ap (λ (k : ℕ). set (a₂ .tags) n₂ (tag k (n₂ - n + 1))) qk) (p₂ ∙ ap (set (a₂ .args) n₂) qx) p₃) (ap (λ (x : ℕ). (tagsAll rs ++ tags t) ++ tag (joinKind j) x ∷ []) sz) refl refl;
+            holds = holds-as (holds-push joined (tag (joinKind j) (n₂ - n + 1)) (joinArg j) (omega (arith, la)) (omega (arith, la)) (p .tags) (p .args) p₃) (ap (λ (x : ℕ). (tagsAll rs ++ tags t) ++ tag (joinKind j) x ∷ []) sz) refl refl;
           }

@@ -4,11 +4,11 @@ use Prim.Native.Nat.{ℕ, _+_, _-_, _≤_, _<_}
 use mathlib.Core.Path.{_≡_}
 use mathlib.Core.Bool.{Bool, true, false}
 use mathlib.Core.List.{List, _++_}
-use lib.ListN.{length, take}
+use lib.ListN.{length, take, set}
 use Rattle.classes.specs.Class.{faults}
 use Rattle.refusals.specs.declared.Refusal.{Refusal}
 use Rattle.tokens.specs.Token.{tokensFrom}
-use Rattle.rules.specs.Rule.{Rule}
+use Rattle.rules.specs.Rule.{Leaf, Join, Rule, leaf}
 use Rattle.image.specs.Encode as image
 use Rattle.grammar.specs.Grammar.{Got, got, bad}
 use Rattle.grammar.specs.Inner.Heads.{left}
@@ -66,6 +66,34 @@ pub record Read (G : ℕ → Got) (need : ℕ) (s : List ℕ) (at n m : ℕ) (b 
 pub record Parsed (G : ℕ → Got) (need : ℕ) (s : List ℕ) (at n m : ℕ) (b a : Arrays) (r : Reach) : Type 0 where
   pub done : (e n₁ m₁ : ℕ) → r ≡ Done e n₁ m₁ → Read G need s at n m b a e n₁ m₁
   pub refused : (x : Refusal) → r ≡ Refused x → (f : ℕ) → need ≤ f → G f ≡ bad x
+
+-- ---- what the functions that write nodes ask and promise
+
+-- room for a name, the part of a text from `start` to `end`, and for its node after the first n
+pub record NameRoom (s : List ℕ) (start end n m : ℕ) (b : Arrays) : Type 0 where
+  pub ordered : start ≤ end
+  pub inside : end ≤ length s
+  pub room : n < length (b .tags)
+  pub width : m + (end - start) ≤ length (b .tags)
+  pub few : length (b .tags) ≤ 2048
+  pub long : Long (length (b .tags)) b
+
+-- a leaf's node was written after the first n nodes of b, its name after the first m name bytes, and the text goes on at `next`
+pub record Written (l : Leaf) (next n m : ℕ) (b a : Arrays) (r : Reach) : Type 0 where
+  pub reached : r ≡ Done next (n + 1) (m + length (image.leafName l))
+  pub holds : Holds b a n m (n + 1) (m + length (image.leafName l)) (image.tags (leaf l)) (image.args (leaf l) m) (image.names (leaf l))
+
+-- room in two arrays for a combinator's node after the first n, over those from `first` on
+pub record JoinRoom (first n : ℕ) (t a : List ℕ) : Type 0 where
+  pub some : first < n
+  pub tags : n < length t
+  pub args : n < length a
+  pub few : length t ≤ 2048
+
+-- it was written there
+pub record Joined (j : Join) (first n : ℕ) (t a t₁ a₁ : List ℕ) : Type 0 where
+  pub tags : t₁ ≡ set t n (image.tag (image.joinKind j) (n - first + 1))
+  pub args : a₁ ≡ set a n (image.joinArg j)
 
 -- one less where a chain goes on in its left side
 abbrev pub keepIf : Bool → ℕ → ℕ

@@ -1,8 +1,8 @@
--- `nodes::kept` meets its contract. Assumes nothing.
+-- `endings::kept` meets its contract. Assumes nothing.
 use borrow.Author.Needs.{needs}
 use borrow.Author.Tests.{eq-eqb, ne-eqb}
-use Rattle.nodes.proofs.kept.Statement.{statement}
-use Rattle.nodes.proofs.kept.Tie as tie
+use Rattle.endings.proofs.kept.Statement.{statement}
+use Rattle.endings.proofs.kept.Tie as tie
 
 sub-if1 : tie.Need-sub-if1
 sub-if1 c = search needs

@@ -1,0 +1,124 @@
+// What follows an expression that was read: an operand after a chain's sign, a group's closing bracket, a list's arguments.
+ghost use mathlib.Core.Path.{_≡_};
+ghost use Prim.Native.Nat.{_-_, _+_, _≤_, _<_, _%_};
+ghost use lib.Dec.{eqb};
+ghost use lib.ListN.{length, getD};
+ghost use Rattle.classes.specs.Class.{faults, ampersand, bar};
+ghost use Rattle.grammar.specs.Inner.Heads.{joinOf};
+ghost use Rattle.nodes.specs.Inner.Parses.{keepIf};
+ghost use Rattle.endings.specs.Inner.Endings.{nextOperand, groupEnd, firstArgument, nextArgument, ListRoom, ListEnd};
+use grammar::Combinator;
+use nodes::Reach;
+use nodes::push_combinator;
+use nodes::refuse;
+use signs::bracket_at;
+use signs::place_of;
+use signs::sign_at;
+use tokens::Next;
+use tokens::token_at;
+
+// How many of n nodes stay where a chain goes on: the last one goes where it is of the chain's kind.
+fn kept(tags: &[u32], n: usize, kind: u32) -> usize
+    requires { ⌜ (0 < n) × (n ≤ length (now tags)) ⌝ }
+    ensures { λ r. ⌜ (r ≡ keepIf (eqb (getD (now (tags .entry)) (n - 1) 0 % 256) kind) n) × ((r ≤ n) × (n ≤ r + 1)) ⌝ }
+{
+    if tags[n - 1] % 256 == kind { n - 1 } else { n }
+}
+
+// Where a chain's next operand is read, and after how many nodes; or there is none.
+pub enum Operand {
+    At { next: usize, n: usize },
+    None,
+}
+
+// The next operand of a chain whose left side ends at a position, with n nodes: it follows the chain's sign.
+pub fn next_operand(
+    text: &[u8],
+    at: usize,
+    sign: u8,
+    tags: &[u32],
+    n: usize,
+    kind: u32,
+    class: &[u8; 256],
+) -> Operand
+    requires { ⌜ (faults (now class) ≡ 0) × ((ampersand ≤ sign) × ((sign ≤ bar) × ((0 < n) × (n ≤ length (now tags))))) ⌝ }
+    ensures { λ r. ⌜ r ≡ nextOperand (now (text .entry)) at sign (now (tags .entry)) n kind ⌝ }
+{
+    let Next::To(next) = sign_at(text, at, sign, class) else {
+        return Operand::None;
+    };
+    Operand::At {
+        next,
+        n: kept(tags, n, kind),
+    }
+}
+
+// A group whose inner rule ends at a position: its closing bracket is expected there.
+pub fn close_group(text: &[u8], at: usize, n: usize, m: usize, class: &[u8; 256]) -> Reach
+    requires { ⌜ faults (now class) ≡ 0 ⌝ }
+    ensures { λ r. ⌜ r ≡ groupEnd (now (text .entry)) at n m ⌝ }
+{
+    let Next::To(next) = bracket_at(text, at, classes::CLOSE, class) else {
+        return refuse(refusals::OPEN_BRACKET, place_of(token_at(text, at, class)));
+    };
+    Reach::Done { next, n, m }
+}
+
+// Where a list's next argument is read, after how many nodes and name bytes; or the list's end: all were read, or a refusal.
+pub enum Argument {
+    At { next: usize, n: usize, m: usize },
+    End(Reach),
+}
+
+// The first argument of a list whose function's word is at `place`; an empty list is refused.
+pub fn first_argument(
+    text: &[u8],
+    place: usize,
+    next: usize,
+    n: usize,
+    m: usize,
+    class: &[u8; 256],
+) -> Argument
+    requires { ⌜ faults (now class) ≡ 0 ⌝ }
+    ensures { λ r. ⌜ r ≡ firstArgument (now (text .entry)) place next n m ⌝ }
+{
+    if let Next::To(_) = bracket_at(text, next, classes::CLOSE, class) {
+        return Argument::End(refuse(refusals::EMPTY_LIST, place));
+    }
+    Argument::At { next, n, m }
+}
+
+// What follows an argument: another one after a comma, or the list's end.
+pub fn next_argument(text: &[u8], last: Reach, class: &[u8; 256]) -> Argument
+    requires { ⌜ faults (now class) ≡ 0 ⌝ }
+    ensures { λ r. ⌜ r ≡ nextArgument (now (text .entry)) last ⌝ }
+{
+    let Reach::Done { next, n, m } = last else {
+        return Argument::End(last);
+    };
+    if let Next::To(after) = bracket_at(text, next, classes::COMMA, class) {
+        return Argument::At { next: after, n, m };
+    }
+    Argument::End(close_group(text, next, n, m, class))
+}
+
+// A list at its end: writes its node over the nodes from `first` on where all its arguments were read; else the refusal stays.
+pub fn close_list(
+    tags: &mut [u32],
+    args: &mut [u64],
+    first: usize,
+    combinator: Combinator,
+    all: Reach,
+) -> Reach
+    requires { ⌜ ListRoom first (now tags) (now args) all ⌝ }
+    ensures { λ r. ⌜ ListEnd (joinOf combinator) first (now (tags .entry)) (now (args .entry)) (now (tags .exit)) (now (args .exit)) all r ⌝ }
+{
+    match all {
+        Reach::Refused(f) => Reach::Refused(f),
+        Reach::Done { next, n, m } => Reach::Done {
+            next,
+            n: push_combinator(tags, args, first, n, combinator),
+            m,
+        },
+    }
+}
