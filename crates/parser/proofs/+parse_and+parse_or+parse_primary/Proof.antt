@@ -15,7 +15,7 @@ use Rattle.grammar.specs.Inner.Heads.{joinOf, headNext, left}
 use Rattle.grammar.proofs.Laws.HeadLaws.{head-is, head-ahead}
 use Rattle.nodes.specs.Inner.Parses.{arrays}
 use Rattle.nodes.proofs.Laws.ParseLaws.{and-level, or-level}
-use Rattle.parser.proofs.Laws.OperandLaws.{lengths, Chaining, chain-refused, chain-begin, chain-stop, operand-asks, operand-follows, chain-lengths, right-before, right-room, right-fewer, right-fails, chain-turn}
+use Rattle.parser.proofs.Laws.OperandLaws.{lengths, Chaining, chain-refused, chain-begin, chain-stop, operand-asks, operand-follows, right-before, right-room, right-fewer, right-fails, chain-turn}
 use Rattle.parser.proofs.Laws.PrimaryLaws.{primary-refused, name-room, name-read, test-room, test-read, group-before, group-refused, group-done}
 use Rattle.parser.proofs.Laws.ArgumentLaws.{argumentsLeft, Arguments, list-first, list-room, list-end, argument-before, arguments-fewer, list-next}
 use Rattle.parser.proofs.parse_and.Reads as parse-and
@@ -103,24 +103,6 @@ parse-and-next-operand-requires : (t : ℕ) → parse-and-lts.Need-next-operand-
 parse-and-next-operand-requires t c κs =
     operand-asks (c .before .loop .inv) (omega arith)
 
-parse-and-same-length-4 : (t : ℕ) → parse-and-lts.Need-same-length-4 (parse-and-calls t) (parse-and-at t) parse-and.Post parse-and-Inv-loop parse-and-μ-loop
-parse-and-same-length-4 t c =
-    let loop = c .before .before .before .before in
-    let same = loop .before .before .before .before .before .before .before .before .before .before .parse-primary .kept .1 .1 .1 in
-    chain-lengths (loop .loop .inv) .tags ∙ same .0
-
-parse-and-same-length-5 : (t : ℕ) → parse-and-lts.Need-same-length-5 (parse-and-calls t) (parse-and-at t) parse-and.Post parse-and-Inv-loop parse-and-μ-loop
-parse-and-same-length-5 t c =
-    let loop = c .before .before .before .before in
-    let same = loop .before .before .before .before .before .before .before .before .before .before .parse-primary .kept .1 .1 .1 in
-    chain-lengths (loop .loop .inv) .args ∙ same .1 .0
-
-parse-and-same-length-6 : (t : ℕ) → parse-and-lts.Need-same-length-6 (parse-and-calls t) (parse-and-at t) parse-and.Post parse-and-Inv-loop parse-and-μ-loop
-parse-and-same-length-6 t c =
-    let loop = c .before .before .before .before in
-    let same = loop .before .before .before .before .before .before .before .before .before .before .parse-primary .kept .1 .1 .1 in
-    chain-lengths (loop .loop .inv) .names ∙ same .1 .1 .0
-
 parse-and-returns-2 : (t : ℕ) → parse-and-lts.Need-returns-2 (parse-and-calls t) (parse-and-at t) parse-and.Post parse-and-Inv-loop parse-and-μ-loop
 parse-and-returns-2 t c =
     let operand = c .before .before in
@@ -141,27 +123,6 @@ parse-and-parse-primary-requires-2 t c κs =
     let f = operand-follows inv andSign (joinKind all) (operand .next-operand .ensures) (next .next .given .1) in
     let entry = loop .before .before .before .before .before .before .before .before .before .before .before .before .before .before .before .before .before .before in
     (omega (arith, entry .pre .0, inv .sofar .fewer, f .signed .bounds .2), right-before inv f)
-
-parse-and-same-length-7 : (t : ℕ) → parse-and-lts.Need-same-length-7 (parse-and-calls t) (parse-and-at t) parse-and.Post parse-and-Inv-loop parse-and-μ-loop
-parse-and-same-length-7 t c =
-    let right = c .before .before .before .before .before .before .before .before in
-    let loop = right .before .before .before .before .before .before .before .before .before in
-    let same = loop .before .before .before .before .before .before .before .before .before .before .parse-primary .kept .1 .1 .1 in
-    right .parse-primary2 .kept .1 .1 .1 .0 ∙ chain-lengths (loop .loop .inv) .tags ∙ same .0
-
-parse-and-same-length-8 : (t : ℕ) → parse-and-lts.Need-same-length-8 (parse-and-calls t) (parse-and-at t) parse-and.Post parse-and-Inv-loop parse-and-μ-loop
-parse-and-same-length-8 t c =
-    let right = c .before .before .before .before .before .before .before .before in
-    let loop = right .before .before .before .before .before .before .before .before .before in
-    let same = loop .before .before .before .before .before .before .before .before .before .before .parse-primary .kept .1 .1 .1 in
-    right .parse-primary2 .kept .1 .1 .1 .1 .0 ∙ chain-lengths (loop .loop .inv) .args ∙ same .1 .0
-
-parse-and-same-length-9 : (t : ℕ) → parse-and-lts.Need-same-length-9 (parse-and-calls t) (parse-and-at t) parse-and.Post parse-and-Inv-loop parse-and-μ-loop
-parse-and-same-length-9 t c =
-    let right = c .before .before .before .before .before .before .before .before in
-    let loop = right .before .before .before .before .before .before .before .before .before in
-    let same = loop .before .before .before .before .before .before .before .before .before .before .parse-primary .kept .1 .1 .1 in
-    right .parse-primary2 .kept .1 .1 .1 .1 .1 .0 ∙ chain-lengths (loop .loop .inv) .names ∙ same .1 .1 .0
 
 parse-and-returns-3 : (t : ℕ) → parse-and-lts.Need-returns-3 (parse-and-calls t) (parse-and-at t) parse-and.Post parse-and-Inv-loop parse-and-μ-loop
 parse-and-returns-3 t c =
@@ -241,24 +202,6 @@ parse-or-next-operand-requires : (t : ℕ) → parse-or-lts.Need-next-operand-re
 parse-or-next-operand-requires t c κs =
     operand-asks (c .before .loop .inv) (omega arith)
 
-parse-or-same-length-4 : (t : ℕ) → parse-or-lts.Need-same-length-4 (parse-or-calls t) (parse-or-at t) parse-or.Post parse-or-Inv-loop parse-or-μ-loop
-parse-or-same-length-4 t c =
-    let loop = c .before .before .before .before in
-    let same = loop .before .before .before .before .before .before .before .before .before .before .parse-and .kept .1 .1 .1 in
-    chain-lengths (loop .loop .inv) .tags ∙ same .0
-
-parse-or-same-length-5 : (t : ℕ) → parse-or-lts.Need-same-length-5 (parse-or-calls t) (parse-or-at t) parse-or.Post parse-or-Inv-loop parse-or-μ-loop
-parse-or-same-length-5 t c =
-    let loop = c .before .before .before .before in
-    let same = loop .before .before .before .before .before .before .before .before .before .before .parse-and .kept .1 .1 .1 in
-    chain-lengths (loop .loop .inv) .args ∙ same .1 .0
-
-parse-or-same-length-6 : (t : ℕ) → parse-or-lts.Need-same-length-6 (parse-or-calls t) (parse-or-at t) parse-or.Post parse-or-Inv-loop parse-or-μ-loop
-parse-or-same-length-6 t c =
-    let loop = c .before .before .before .before in
-    let same = loop .before .before .before .before .before .before .before .before .before .before .parse-and .kept .1 .1 .1 in
-    chain-lengths (loop .loop .inv) .names ∙ same .1 .1 .0
-
 parse-or-returns-2 : (t : ℕ) → parse-or-lts.Need-returns-2 (parse-or-calls t) (parse-or-at t) parse-or.Post parse-or-Inv-loop parse-or-μ-loop
 parse-or-returns-2 t c =
     let operand = c .before .before in
@@ -279,27 +222,6 @@ parse-or-parse-and-requires-2 t c κs =
     let f = operand-follows inv orSign (joinKind any) (operand .next-operand .ensures) (next .next .given .1) in
     let entry = loop .before .before .before .before .before .before .before .before .before .before .before .before .before .before .before .before .before .before in
     (omega (arith, entry .pre .0, inv .sofar .fewer, f .signed .bounds .2), right-before inv f)
-
-parse-or-same-length-7 : (t : ℕ) → parse-or-lts.Need-same-length-7 (parse-or-calls t) (parse-or-at t) parse-or.Post parse-or-Inv-loop parse-or-μ-loop
-parse-or-same-length-7 t c =
-    let right = c .before .before .before .before .before .before .before .before in
-    let loop = right .before .before .before .before .before .before .before .before .before in
-    let same = loop .before .before .before .before .before .before .before .before .before .before .parse-and .kept .1 .1 .1 in
-    right .parse-and2 .kept .1 .1 .1 .0 ∙ chain-lengths (loop .loop .inv) .tags ∙ same .0
-
-parse-or-same-length-8 : (t : ℕ) → parse-or-lts.Need-same-length-8 (parse-or-calls t) (parse-or-at t) parse-or.Post parse-or-Inv-loop parse-or-μ-loop
-parse-or-same-length-8 t c =
-    let right = c .before .before .before .before .before .before .before .before in
-    let loop = right .before .before .before .before .before .before .before .before .before in
-    let same = loop .before .before .before .before .before .before .before .before .before .before .parse-and .kept .1 .1 .1 in
-    right .parse-and2 .kept .1 .1 .1 .1 .0 ∙ chain-lengths (loop .loop .inv) .args ∙ same .1 .0
-
-parse-or-same-length-9 : (t : ℕ) → parse-or-lts.Need-same-length-9 (parse-or-calls t) (parse-or-at t) parse-or.Post parse-or-Inv-loop parse-or-μ-loop
-parse-or-same-length-9 t c =
-    let right = c .before .before .before .before .before .before .before .before in
-    let loop = right .before .before .before .before .before .before .before .before .before in
-    let same = loop .before .before .before .before .before .before .before .before .before .before .parse-and .kept .1 .1 .1 in
-    right .parse-and2 .kept .1 .1 .1 .1 .1 .0 ∙ chain-lengths (loop .loop .inv) .names ∙ same .1 .1 .0
 
 parse-or-returns-3 : (t : ℕ) → parse-or-lts.Need-returns-3 (parse-or-calls t) (parse-or-at t) parse-or.Post parse-or-Inv-loop parse-or-μ-loop
 parse-or-returns-3 t c =
@@ -511,16 +433,16 @@ pub +parse-and+parse-or+parse-primary-spec : {M : Type 1} → statement M
     (parse-and-next-operand-requires t)
     (λ c. search needs)  -- enum-known-next
     (λ c. search needs)  -- enum-told-2
-    (parse-and-same-length-4 t)
-    (parse-and-same-length-5 t)
-    (parse-and-same-length-6 t)
+    (λ c. omega arith)  -- same-length-4
+    (λ c. omega arith)  -- same-length-5
+    (λ c. omega arith)  -- same-length-6
     (parse-and-returns-2 t)
     (parse-and-parse-primary-requires-2 t)
     (λ c. search needs)  -- enum-known-right
     (λ c. search needs)  -- enum-told-3
-    (parse-and-same-length-7 t)
-    (parse-and-same-length-8 t)
-    (parse-and-same-length-9 t)
+    (λ c. omega arith)  -- same-length-7
+    (λ c. omega arith)  -- same-length-8
+    (λ c. omega arith)  -- same-length-9
     (parse-and-returns-3 t)
     (parse-and-push-combinator-requires t)
     (parse-and-loop-less t)
@@ -541,16 +463,16 @@ pub +parse-and+parse-or+parse-primary-spec : {M : Type 1} → statement M
     (parse-or-next-operand-requires t)
     (λ c. search needs)  -- enum-known-next
     (λ c. search needs)  -- enum-told-2
-    (parse-or-same-length-4 t)
-    (parse-or-same-length-5 t)
-    (parse-or-same-length-6 t)
+    (λ c. omega arith)  -- same-length-4
+    (λ c. omega arith)  -- same-length-5
+    (λ c. omega arith)  -- same-length-6
     (parse-or-returns-2 t)
     (parse-or-parse-and-requires-2 t)
     (λ c. search needs)  -- enum-known-right
     (λ c. search needs)  -- enum-told-3
-    (parse-or-same-length-7 t)
-    (parse-or-same-length-8 t)
-    (parse-or-same-length-9 t)
+    (λ c. omega arith)  -- same-length-7
+    (λ c. omega arith)  -- same-length-8
+    (λ c. omega arith)  -- same-length-9
     (parse-or-returns-3 t)
     (parse-or-push-combinator-requires t)
     (parse-or-loop-less t)

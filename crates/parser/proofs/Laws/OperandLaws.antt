@@ -110,10 +110,6 @@ module _ {class s : List ℕ} {G : ℕ → Got} {More : ℕ → Got → Got} {at
   pub operand-follows : (sign kind : ℕ) {r : Operand} → r ≡ nextOperand s e sign (a .tags) n₁ kind → {y k : ℕ} → r ≡ At y k → Follows s e sign (a .tags) n₁ kind y k
   operand-follows sign kind q = follows s e sign (a .tags) n₁ kind q (omega (arith, c .sofar .some))
 
-  -- the arrays are as long as before the loop
-  pub chain-lengths : Lengths a b
-  chain-lengths = let l = c .sofar .long in let p = c .before .long in lengths (l .tags) (l .args ∙ sym (p .args)) (l .names ∙ sym (p .names))
-
   module _ {sign kind y k : ℕ} (f : Follows s e sign (a .tags) n₁ kind y k) where
     pub right-before : Before class s y d k m₁ a
     right-before =
