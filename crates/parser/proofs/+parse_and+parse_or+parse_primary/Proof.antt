@@ -89,7 +89,7 @@ parse-and-returns : (t : ℕ) → parse-and-lts.Need-returns (parse-and-calls t)
 parse-and-returns t c =
     let first = c .before .before .before .before .before .before .before .before in
     let entry = first .before .before .before .before .before .before .before .before in
-    chain-refused (and-level (entry .args .text .now) (entry .args .depth) (entry .args .at)) (entry .pre .1) (omega arith) (first .parse-primary .ensures) (c .enum-told .given .1)
+    chain-refused (and-level _ _ _) (entry .pre .1) (omega arith) (first .parse-primary .ensures) (c .enum-told .given .1)
 
 parse-and-loop-holds : (t : ℕ) → parse-and-lts.Need-loop-holds (parse-and-calls t) (parse-and-at t) parse-and.Post parse-and-Inv-loop parse-and-μ-loop
 parse-and-loop-holds t c =
@@ -97,7 +97,7 @@ parse-and-loop-holds t c =
     let first = done .before .before .before .before .before .before .before .before in
     let entry = first .before .before .before .before .before .before .before .before in
     let same = first .parse-primary .kept .1 .1 .1 in
-    chain-begin (and-level (entry .args .text .now) (entry .args .depth) (entry .args .at)) (entry .pre .1) (omega arith) (first .parse-primary .ensures) (lengths (same .0) (same .1 .0) (same .1 .1 .0)) (done .first .given .1)
+    chain-begin (and-level _ _ _) (entry .pre .1) (omega arith) (first .parse-primary .ensures) (lengths (same .0) (same .1 .0) (same .1 .1 .0)) (done .first .given .1)
 
 parse-and-next-operand-requires : (t : ℕ) → parse-and-lts.Need-next-operand-requires (parse-and-calls t) (parse-and-at t) parse-and.Post parse-and-Inv-loop parse-and-μ-loop
 parse-and-next-operand-requires t c κs =
@@ -111,7 +111,7 @@ parse-and-returns-2 t c =
     let first = done .before .before .before .before .before .before .before .before in
     let entry = first .before .before .before .before .before .before .before .before in
     let same = first .parse-primary .kept .1 .1 .1 in
-    chain-stop (and-level (entry .args .text .now) (entry .args .depth) (entry .args .at)) (entry .pre .1) (omega arith) (first .parse-primary .ensures) (lengths (same .0) (same .1 .0) (same .1 .1 .0)) (done .first .given .1) (loop .loop .inv)
+    chain-stop (and-level _ _ _) (entry .pre .1) (omega arith) (first .parse-primary .ensures) (lengths (same .0) (same .1 .0) (same .1 .1 .0)) (done .first .given .1) (loop .loop .inv)
     (omega arith) (operand .next-operand .ensures) (c .enum-told2 .given .1) refl
 
 parse-and-parse-primary-requires-2 : (t : ℕ) → parse-and-lts.Need-parse-primary-requires-2 (parse-and-calls t) (parse-and-at t) parse-and.Post parse-and-Inv-loop parse-and-μ-loop
@@ -132,8 +132,7 @@ parse-and-returns-3 t c =
     let loop = operand .before .before in
     let inv = loop .loop .inv in
     let f = operand-follows inv andSign (joinKind all) (operand .next-operand .ensures) (next .next .given .1) in
-    let entry = loop .before .before .before .before .before .before .before .before .before .before .before .before .before .before .before .before .before .before in
-    right-fails (and-level (entry .args .text .now) (entry .args .depth) (entry .args .at)) inv f (omega arith) (right .parse-primary2 .ensures) (c .enum-told3 .given .1)
+    right-fails (and-level _ _ _) inv f (omega arith) (right .parse-primary2 .ensures) (c .enum-told3 .given .1)
 
 parse-and-push-combinator-requires : (t : ℕ) → parse-and-lts.Need-push-combinator-requires (parse-and-calls t) (parse-and-at t) parse-and.Post parse-and-Inv-loop parse-and-μ-loop
 parse-and-push-combinator-requires t c κs =
@@ -166,12 +165,11 @@ parse-and-loop-again t c =
     let loop = operand .before .before in
     let inv = loop .loop .inv in
     let f = operand-follows inv andSign (joinKind all) (operand .next-operand .ensures) (next .next .given .1) in
-    let entry = loop .before .before .before .before .before .before .before .before .before .before .before .before .before .before .before .before .before .before in
     let pushed = c .before .before .before .before in
     let done = c .before .before .before .before .before .before .before .before in
     let right = done .before .before .before .before .before .before .before .before in
     let new = right .parse-primary2 .kept .1 .1 .1 in
-    chain-turn (and-level (entry .args .text .now) (entry .args .depth) (entry .args .at)) inv f (omega arith) (right .parse-primary2 .ensures) (lengths (new .0) (new .1 .0) (new .1 .1 .0)) (done .right .given .1) (pushed .push-combinator .ensures) refl
+    chain-turn (and-level _ _ _) inv f (omega arith) (right .parse-primary2 .ensures) (lengths (new .0) (new .1 .0) (new .1 .1 .0)) (done .right .given .1) (pushed .push-combinator .ensures) refl
 
 -- ---- parse_or
 abbrev parse-or-Inv-loop : parse-or-lts.InvT-loop
@@ -188,7 +186,7 @@ parse-or-returns : (t : ℕ) → parse-or-lts.Need-returns (parse-or-calls t) (p
 parse-or-returns t c =
     let first = c .before .before .before .before .before .before .before .before in
     let entry = first .before .before .before .before .before .before .before .before in
-    chain-refused (or-level (entry .args .text .now) (entry .args .depth) (entry .args .at)) (entry .pre .1) (omega arith) (first .parse-and .ensures) (c .enum-told .given .1)
+    chain-refused (or-level _ _ _) (entry .pre .1) (omega arith) (first .parse-and .ensures) (c .enum-told .given .1)
 
 parse-or-loop-holds : (t : ℕ) → parse-or-lts.Need-loop-holds (parse-or-calls t) (parse-or-at t) parse-or.Post parse-or-Inv-loop parse-or-μ-loop
 parse-or-loop-holds t c =
@@ -196,7 +194,7 @@ parse-or-loop-holds t c =
     let first = done .before .before .before .before .before .before .before .before in
     let entry = first .before .before .before .before .before .before .before .before in
     let same = first .parse-and .kept .1 .1 .1 in
-    chain-begin (or-level (entry .args .text .now) (entry .args .depth) (entry .args .at)) (entry .pre .1) (omega arith) (first .parse-and .ensures) (lengths (same .0) (same .1 .0) (same .1 .1 .0)) (done .first .given .1)
+    chain-begin (or-level _ _ _) (entry .pre .1) (omega arith) (first .parse-and .ensures) (lengths (same .0) (same .1 .0) (same .1 .1 .0)) (done .first .given .1)
 
 parse-or-next-operand-requires : (t : ℕ) → parse-or-lts.Need-next-operand-requires (parse-or-calls t) (parse-or-at t) parse-or.Post parse-or-Inv-loop parse-or-μ-loop
 parse-or-next-operand-requires t c κs =
@@ -210,7 +208,7 @@ parse-or-returns-2 t c =
     let first = done .before .before .before .before .before .before .before .before in
     let entry = first .before .before .before .before .before .before .before .before in
     let same = first .parse-and .kept .1 .1 .1 in
-    chain-stop (or-level (entry .args .text .now) (entry .args .depth) (entry .args .at)) (entry .pre .1) (omega arith) (first .parse-and .ensures) (lengths (same .0) (same .1 .0) (same .1 .1 .0)) (done .first .given .1) (loop .loop .inv)
+    chain-stop (or-level _ _ _) (entry .pre .1) (omega arith) (first .parse-and .ensures) (lengths (same .0) (same .1 .0) (same .1 .1 .0)) (done .first .given .1) (loop .loop .inv)
     (omega arith) (operand .next-operand .ensures) (c .enum-told2 .given .1) refl
 
 parse-or-parse-and-requires-2 : (t : ℕ) → parse-or-lts.Need-parse-and-requires-2 (parse-or-calls t) (parse-or-at t) parse-or.Post parse-or-Inv-loop parse-or-μ-loop
@@ -231,8 +229,7 @@ parse-or-returns-3 t c =
     let loop = operand .before .before in
     let inv = loop .loop .inv in
     let f = operand-follows inv orSign (joinKind any) (operand .next-operand .ensures) (next .next .given .1) in
-    let entry = loop .before .before .before .before .before .before .before .before .before .before .before .before .before .before .before .before .before .before in
-    right-fails (or-level (entry .args .text .now) (entry .args .depth) (entry .args .at)) inv f (omega arith) (right .parse-and2 .ensures) (c .enum-told3 .given .1)
+    right-fails (or-level _ _ _) inv f (omega arith) (right .parse-and2 .ensures) (c .enum-told3 .given .1)
 
 parse-or-push-combinator-requires : (t : ℕ) → parse-or-lts.Need-push-combinator-requires (parse-or-calls t) (parse-or-at t) parse-or.Post parse-or-Inv-loop parse-or-μ-loop
 parse-or-push-combinator-requires t c κs =
@@ -265,12 +262,11 @@ parse-or-loop-again t c =
     let loop = operand .before .before in
     let inv = loop .loop .inv in
     let f = operand-follows inv orSign (joinKind any) (operand .next-operand .ensures) (next .next .given .1) in
-    let entry = loop .before .before .before .before .before .before .before .before .before .before .before .before .before .before .before .before .before .before in
     let pushed = c .before .before .before .before in
     let done = c .before .before .before .before .before .before .before .before in
     let right = done .before .before .before .before .before .before .before .before in
     let new = right .parse-and2 .kept .1 .1 .1 in
-    chain-turn (or-level (entry .args .text .now) (entry .args .depth) (entry .args .at)) inv f (omega arith) (right .parse-and2 .ensures) (lengths (new .0) (new .1 .0) (new .1 .1 .0)) (done .right .given .1) (pushed .push-combinator .ensures) refl
+    chain-turn (or-level _ _ _) inv f (omega arith) (right .parse-and2 .ensures) (lengths (new .0) (new .1 .0) (new .1 .1 .0)) (done .right .given .1) (pushed .push-combinator .ensures) refl
 
 -- ---- parse_primary
 abbrev parse-primary-Inv-loop : parse-primary-lts.InvT-loop
@@ -313,7 +309,7 @@ parse-primary-loop-holds t c =
     let case = c .before .before in
     let head = case .before .before in
     let entry = head .before .before .before .before .before in
-    list-first (entry .args .text .now) (entry .args .depth) (entry .args .at) _ (head-is (entry .args .at) (head .head-at .ensures) (case .combinator .given .1)) (head-ahead (entry .args .at) (head .head-at .ensures) (ap headNext (case .combinator .given .1))) (entry .pre .1 .long) (c .first-argument .ensures)
+    list-first _ _ _ _ (head-is (entry .args .at) (head .head-at .ensures) (case .combinator .given .1)) (head-ahead (entry .args .at) (head .head-at .ensures) (ap headNext (case .combinator .given .1))) (entry .pre .1 .long) (c .first-argument .ensures)
 
 parse-primary-add-parse-or-2 : (t : ℕ) → parse-primary-lts.Need-add-parse-or-2 (parse-primary-calls t) (parse-primary-at t) parse-primary.Post parse-primary-Inv-loop parse-primary-μ-loop
 parse-primary-add-parse-or-2 t c =
