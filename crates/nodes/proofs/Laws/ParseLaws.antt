@@ -1,27 +1,23 @@
 -- Laws of the parser's promises: an answer by its case, a chain turn by turn, a primary by how it begins, a list item by item.
 -- Assumes nothing.
 use mathlib.Core.Path.{_≡_, refl, sym, ap, subst, _∙_}
-use mathlib.Core.List.{List, [], _∷_, _++_, append-nil}
+use mathlib.Core.List.{List, [], _∷_, _++_}
 use Prim.Native.Nat.{ℕ, zero, suc, _+_, _-_, _*_, _%_, _≤_, _<_}
 use native.Mathlib.Omega.{arith}
 use lib.Dec.{eqb}
-use lib.ListN.{length, take, set, getD, length-append, length-set}
-use Rattle.slices.specs.Text.{part}
-use Rattle.slices.proofs.Laws.TextLaws.{part-length}
+use lib.ListN.{length, take, getD, length-append, length-set}
 use Rattle.refusals.specs.declared.Refusal.{Refusal}
 use Rattle.refusals.specs.Refusals.{refusal, openBracket, emptyList}
 use Rattle.tokens.specs.declared.Token.{Token}
 use Rattle.tokens.specs.Token.{tokensFrom}
-use Rattle.rules.specs.Rule.{Leaf, named, olderThan, readable, Join, all, any, Rule, leaf, node, Rules, nil, more, size, sizes}
-use Rattle.image.specs.Encode.{leafKind, joinKind, tag, leafArg, joinArg, leafName, tags, tagsAll, args, argsAll, names, namesAll}
+use Rattle.rules.specs.Rule.{Leaf, Join, all, any, Rule, leaf, node, Rules, nil, more, size, sizes}
+use Rattle.image.specs.Encode.{joinKind, tag, joinArg, leafName, tags, tagsAll, args, argsAll, names, namesAll}
 use Rattle.image.proofs.Laws.EncodeLaws.{length-tags, length-tagsAll}
 use Rattle.grammar.specs.Grammar.{Rest, rest, missing, after, andSign, orSign, commaSign, closeSign, firstPlace, aLeaf, aGroup, aList, refused, headIn, chain, Got, got, bad, onto, onRest, closeAfter, orIn, orMore, andIn, andMore, primaryIn, listMore}
-use Rattle.grammar.specs.Inner.Heads.{left, leafOf}
-use Rattle.nodes.specs.Inner.Parses.{Arrays, arrays, Long, Holds, Read, Parsed, Written, Joined, keepIf}
-use Rattle.nodes.proofs.Laws.ArrayLaws.{snoc, holds-as, holds-join, holds-push, holds-none, front, rebased}
+use Rattle.grammar.specs.Inner.Heads.{left}
+use Rattle.nodes.specs.Inner.Parses.{Arrays, Long, Holds, Read, Parsed, Written, Joined, keepIf}
+use Rattle.nodes.proofs.Laws.ArrayLaws.{holds-as, holds-join, holds-push, holds-none, front, rebased}
 use Rattle.nodes.proofs.Laws.ChainLaws.{Chains, by-all, by-any, chained}
-use Rattle.grammar.specs.declared.Test.{Test}
-use Rattle.grammar.specs.declared.Test.the-variants.{OlderThan, Readable}
 use Rattle.nodes.specs.declared.Reach.{Reach}
 use Rattle.nodes.specs.declared.Reach.the-variants.{Done, Refused}
 

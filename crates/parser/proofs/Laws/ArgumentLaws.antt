@@ -1,18 +1,17 @@
 -- Laws of a group's end, and of a list's loop: what it keeps, an argument that was read, the list's end. Assumes nothing.
 use Prim.Native.Nat.{ℕ, _+_, _-_, _*_, _≤_, _<_}
-use mathlib.Core.Path.{_≡_, refl, sym, ap, subst, _∙_}
+use mathlib.Core.Path.{_≡_, refl, sym, ap, _∙_}
 use mathlib.Core.List.{List}
 use native.Mathlib.Omega.{arith}
 use lib.ListN.{length}
 use Rattle.classes.specs.Class.{closeBracket, comma}
 use Rattle.refusals.specs.declared.Refusal.{Refusal}
-use Rattle.refusals.specs.Refusals.{refusal, emptyList}
 use Rattle.tokens.specs.declared.Next.{Next}
 use Rattle.tokens.specs.declared.Next.the-variants.{Off, To}
 use Rattle.tokens.specs.Token.{placeOf, tokenAt, tokensFrom}
 use Rattle.tokens.specs.Inner.Bounds.{behind}
 use Rattle.rules.specs.Rule.{Join}
-use Rattle.grammar.specs.Grammar.{Got, bad, after, missing, closeSign, commaSign, aGroup, aList, headIn, orIn, primaryIn}
+use Rattle.grammar.specs.Grammar.{bad, after, missing, closeSign, commaSign, aGroup, aList, headIn, orIn, primaryIn}
 use Rattle.grammar.specs.Inner.Heads.{left}
 use Rattle.grammar.proofs.Laws.TokenListLaws.{first-place}
 use Rattle.grammar.proofs.Laws.BehindLaws.{test-on, test-off}

@@ -13,13 +13,13 @@ use Rattle.tokens.specs.Token.{tokenAt, tokensFrom}
 use Rattle.tokens.specs.Inner.Bounds.{behind}
 use Rattle.rules.specs.Rule.{Join}
 use Rattle.image.specs.Encode.{joinKind}
-use Rattle.grammar.specs.Grammar.{Got, rest, missing, after}
+use Rattle.grammar.specs.Grammar.{Got, missing, after}
 use Rattle.grammar.specs.Inner.Heads.{left}
 use Rattle.grammar.proofs.Laws.TokenListLaws.{Signed}
 use Rattle.grammar.proofs.Laws.BehindLaws.{test-on, test-off}
 use Rattle.nodes.specs.declared.Reach.{Reach}
 use Rattle.nodes.specs.declared.Reach.the-variants.{Done, Refused}
-use Rattle.nodes.specs.Inner.Parses.{Arrays, Long, Before, Read, Parsed, JoinRoom, Joined, keepIf}
+use Rattle.nodes.specs.Inner.Parses.{Arrays, Before, Read, Parsed, JoinRoom, Joined, keepIf}
 use Rattle.nodes.proofs.Laws.ArrayLaws.{front, still, long-after}
 use Rattle.nodes.proofs.Laws.ParseLaws.{gave-done, gave-refused, rebase, Level, Sofar, first-refused, begin, stop, right-refused, turn}
 use Rattle.endings.specs.Inner.Endings.{operandBy, nextOperand}
