@@ -4,9 +4,12 @@ ghost use Prim.Native.Nat.{_-_, _+_, _≤_, _<_, _%_};
 ghost use lib.Dec.{eqb};
 ghost use lib.ListN.{length, getD};
 ghost use Rattle.classes.specs.Class.{faults, ampersand, bar};
+ghost use Rattle.grammar.specs.Inner.Heads.{joinOf};
 ghost use Rattle.nodes.specs.Inner.Parses.{keepIf};
-ghost use Rattle.endings.specs.Inner.Endings.{nextOperand, groupEnd, firstArgument, nextArgument};
+ghost use Rattle.endings.specs.Inner.Endings.{nextOperand, groupEnd, firstArgument, nextArgument, ListRoom, ListEnd};
+use grammar::Combinator;
 use nodes::Reach;
+use nodes::push_combinator;
 use nodes::refuse;
 use signs::bracket_at;
 use signs::place_of;
@@ -97,4 +100,25 @@ pub fn next_argument(text: &[u8], last: Reach, class: &[u8; 256]) -> Argument
         return Argument::At { next: after, n, m };
     }
     Argument::End(close_group(text, next, n, m, class))
+}
+
+// A list at its end: writes its node over the nodes from `first` on where all its arguments were read; else the refusal stays.
+pub fn close_list(
+    tags: &mut [u32],
+    args: &mut [u64],
+    first: usize,
+    combinator: Combinator,
+    all: Reach,
+) -> Reach
+    requires { ⌜ ListRoom first (now tags) (now args) all ⌝ }
+    ensures { λ r. ⌜ ListEnd (joinOf combinator) first (now (tags .entry)) (now (args .entry)) (now (tags .exit)) (now (args .exit)) all r ⌝ }
+{
+    match all {
+        Reach::Refused(f) => Reach::Refused(f),
+        Reach::Done { next, n, m } => Reach::Done {
+            next,
+            n: push_combinator(tags, args, first, n, combinator),
+            m,
+        },
+    }
 }

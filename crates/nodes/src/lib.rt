@@ -8,7 +8,7 @@ ghost use Rattle.refusals.specs.Refusals.{refusal};
 ghost use Rattle.rules.specs.Rule.{named};
 ghost use Rattle.image.specs.Encode.{tag};
 ghost use Rattle.grammar.specs.Inner.Heads.{leafOf, joinOf};
-ghost use Rattle.nodes.specs.Inner.Parses.{arrays, NameRoom, Written, JoinRoom, Joined, ListRoom, Listed};
+ghost use Rattle.nodes.specs.Inner.Parses.{arrays, NameRoom, Written, JoinRoom, Joined};
 use grammar::Combinator;
 use grammar::Test;
 use grammar::combinator_arg;
@@ -115,25 +115,4 @@ pub fn push_combinator(
     let arg = combinator_arg(combinator);
     push(tags, args, n, kind, n - first + 1, arg);
     n + 1
-}
-
-// Writes a list's node over the nodes from `first` on, where all its arguments were read; else the refusal stays.
-pub fn push_list(
-    tags: &mut [u32],
-    args: &mut [u64],
-    first: usize,
-    combinator: Combinator,
-    all: Reach,
-) -> Reach
-    requires { ⌜ ListRoom first (now tags) (now args) all ⌝ }
-    ensures { λ r. ⌜ Listed (joinOf combinator) first (now (tags .entry)) (now (args .entry)) (now (tags .exit)) (now (args .exit)) all r ⌝ }
-{
-    match all {
-        Reach::Refused(f) => Reach::Refused(f),
-        Reach::Done { next, n, m } => Reach::Done {
-            next,
-            n: push_combinator(tags, args, first, n, combinator),
-            m,
-        },
-    }
 }

@@ -8,6 +8,7 @@ ghost use Rattle.nodes.specs.Inner.Parses.{arrays, Before, Parsed};
 use endings::Argument;
 use endings::Operand;
 use endings::close_group;
+use endings::close_list;
 use endings::first_argument;
 use endings::next_argument;
 use endings::next_operand;
@@ -16,7 +17,6 @@ use grammar::Head;
 use heads::head_at;
 use nodes::Reach;
 use nodes::push_combinator;
-use nodes::push_list;
 use nodes::push_name;
 use nodes::push_test;
 
@@ -193,7 +193,7 @@ pub fn parse_primary(
                         argument = next_argument(text, read, class);
                     }
                     Argument::End(all) => {
-                        return push_list(tags, args, n, combinator, all);
+                        return close_list(tags, args, n, combinator, all);
                     }
                 }
             }

@@ -1,6 +1,6 @@
 -- `endings::close_group` meets its contract: by whether the bracket is there. Assumes nothing.
 use Prim.Native.Nat.{ℕ}
-use mathlib.Core.Path.{refl, sym, ap, _∙_}
+use mathlib.Core.Path.{sym, ap, _∙_}
 use borrow.Author.Needs.{needs}
 use Rattle.refusals.specs.Refusals.{refusal, openBracket}
 use Rattle.tokens.specs.Token.{placeOf}

@@ -1,5 +1,5 @@
 -- `endings::first_argument` meets its contract: by whether a closing bracket is there. Assumes nothing.
-use mathlib.Core.Path.{refl, sym, ap, _∙_}
+use mathlib.Core.Path.{sym, ap, _∙_}
 use borrow.Author.Needs.{needs}
 use Rattle.endings.specs.declared.Argument.the-variants.{End}
 use Rattle.endings.proofs.first_argument.Statement.{statement}

@@ -1,5 +1,5 @@
 -- `endings::next_argument` meets its contract: by whether the last argument was read, and a comma follows it. Assumes nothing.
-use mathlib.Core.Path.{refl, sym, ap, _∙_}
+use mathlib.Core.Path.{sym, ap, _∙_}
 use borrow.Author.Needs.{needs}
 use Rattle.endings.specs.declared.Argument.the-variants.{End}
 use Rattle.endings.proofs.next_argument.Statement.{statement}

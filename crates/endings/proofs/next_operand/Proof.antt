@@ -1,5 +1,5 @@
 -- `endings::next_operand` meets its contract: by whether the sign is there. Assumes nothing.
-use mathlib.Core.Path.{refl, sym, ap, _∙_}
+use mathlib.Core.Path.{sym, ap, _∙_}
 use borrow.Author.Needs.{needs}
 use Rattle.endings.specs.declared.Operand.the-variants.{At}
 use Rattle.endings.proofs.next_operand.Statement.{statement}

@@ -1,17 +1,20 @@
 -- What follows an expression that was read, by the token at the position where it ends. Assumes nothing.
-use Prim.Native.Nat.{ℕ, _-_, _%_}
+use Prim.Native.Nat.{ℕ, _+_, _-_, _%_}
+use mathlib.Core.Path.{_≡_}
 use mathlib.Core.List.{List}
 use lib.Dec.{eqb}
 use lib.ListN.{getD}
 use Rattle.classes.specs.Class.{closeBracket, comma}
+use Rattle.refusals.specs.declared.Refusal.{Refusal}
 use Rattle.refusals.specs.Refusals.{refusal, openBracket, emptyList}
 use Rattle.tokens.specs.declared.Next.{Next}
 use Rattle.tokens.specs.declared.Next.the-variants.{Off, To}
 use Rattle.tokens.specs.Token.{placeOf, tokenAt}
 use Rattle.tokens.specs.Inner.Bounds.{behind}
+use Rattle.rules.specs.Rule.{Join}
 use Rattle.nodes.specs.declared.Reach.{Reach}
 use Rattle.nodes.specs.declared.Reach.the-variants.{Done, Refused}
-use Rattle.nodes.specs.Inner.Parses.{keepIf}
+use Rattle.nodes.specs.Inner.Parses.{JoinRoom, Joined, keepIf}
 use Rattle.endings.specs.declared.Operand.{Operand}
 use Rattle.endings.specs.declared.Operand.the-variants.{At as OperandAt, None}
 use Rattle.endings.specs.declared.Argument.{Argument}
@@ -49,3 +52,12 @@ argumentBy Off end n m = End end
 abbrev pub nextArgument : List ℕ → Reach → Argument
 nextArgument s (Done e n m) = argumentBy (behind comma (tokenAt s e)) (groupEnd s e n m) n m
 nextArgument s (Refused x) = End (Refused x)
+
+-- room for a list's node where its arguments were read
+abbrev pub ListRoom : (first : ℕ) (t a : List ℕ) → Reach → Type 0
+ListRoom first t a all = (e n m : ℕ) → all ≡ Done e n m → JoinRoom first n t a
+
+-- it was written where they were read; else their refusal is the answer
+pub record ListEnd (j : Join) (first : ℕ) (t a t₁ a₁ : List ℕ) (all r : Reach) : Type 0 where
+  pub done : (e n m : ℕ) → all ≡ Done e n m → (r ≡ Done e (n + 1) m) × Joined j first n t a t₁ a₁
+  pub refused : (x : Refusal) → all ≡ Refused x → r ≡ Refused x

@@ -21,35 +21,11 @@ loop-holds : tie.Need-loop-holds Inv-loop μ-loop
 unfolding packed
 loop-holds c = (omega arith, refl, written-none _ _)
 
-mul-put8 : tie.Need-mul-put8 Inv-loop μ-loop
-mul-put8 c = omega arith
-
-add-put8 : tie.Need-add-put8 Inv-loop μ-loop
-add-put8 c = omega arith
-
-mul-put8-2 : tie.Need-mul-put8-2 Inv-loop μ-loop
-mul-put8-2 c = omega arith
-
-shared-slice-read-put8 : tie.Need-shared-slice-read-put8 Inv-loop μ-loop
-shared-slice-read-put8 c = omega arith
-
-put8-requires : tie.Need-put8-requires Inv-loop μ-loop
-put8-requires c κs = omega arith
-
-add-i : tie.Need-add-i Inv-loop μ-loop
-add-i c = omega arith
-
-loop-less : tie.Need-loop-less Inv-loop μ-loop
-loop-less c = omega arith
-
 loop-again : tie.Need-loop-again Inv-loop μ-loop
 loop-again c =
     let l = c .before .before .before .before .before .before .loop in
     let p = c .before .before .put8 in
     (omega arith, p .kept .0 ∙ l .inv .1, packed-on _ _ (omega arith) _ (l .i) (omega arith) 8 (l .inv .2) (p .ensures))
-
-same-length : tie.Need-same-length Inv-loop μ-loop
-same-length c = search needs
 
 returns : tie.Need-returns Inv-loop μ-loop
 returns c =
@@ -64,13 +40,13 @@ put-args-spec =
     Inv-loop
     μ-loop
     loop-holds
-    mul-put8
-    add-put8
-    mul-put8-2
-    shared-slice-read-put8
-    put8-requires
-    add-i
-    loop-less
+    (λ c. omega arith)  -- mul-put8
+    (λ c. omega arith)  -- add-put8
+    (λ c. omega arith)  -- mul-put8-2
+    (λ c. omega arith)  -- shared-slice-read-put8
+    (λ c κs. omega arith)  -- put8-requires
+    (λ c. omega arith)  -- add-i
+    (λ c. omega arith)  -- loop-less
     loop-again
-    same-length
+    (λ c. search needs)  -- same-length
     returns)

@@ -21,38 +21,14 @@ loop-holds : tie.Need-loop-holds Inv-loop μ-loop
 unfolding packed
 loop-holds c = (omega arith, refl, written-none _ _)
 
-mul-put4 : tie.Need-mul-put4 Inv-loop μ-loop
-mul-put4 c = omega arith
-
-add-put4 : tie.Need-add-put4 Inv-loop μ-loop
-add-put4 c = omega arith
-
-mul-put4-2 : tie.Need-mul-put4-2 Inv-loop μ-loop
-mul-put4-2 c = omega arith
-
-shared-slice-read-put4 : tie.Need-shared-slice-read-put4 Inv-loop μ-loop
-shared-slice-read-put4 c = omega arith
-
 cast-put4 : tie.Need-cast-put4 Inv-loop μ-loop
 cast-put4 c = omega (arith, c .shared-slice-known2 .given (c .before .before .before .loop .i))
-
-put4-requires : tie.Need-put4-requires Inv-loop μ-loop
-put4-requires c κs = omega arith
-
-add-i : tie.Need-add-i Inv-loop μ-loop
-add-i c = omega arith
-
-loop-less : tie.Need-loop-less Inv-loop μ-loop
-loop-less c = omega arith
 
 loop-again : tie.Need-loop-again Inv-loop μ-loop
 loop-again c =
     let l = c .before .before .before .before .before .before .loop in
     let p = c .before .before .put4 in
     (omega arith, p .kept .0 ∙ l .inv .1, packed-on _ _ (omega arith) _ (l .i) (omega arith) 4 (l .inv .2) (p .ensures))
-
-same-length : tie.Need-same-length Inv-loop μ-loop
-same-length c = search needs
 
 returns : tie.Need-returns Inv-loop μ-loop
 returns c =
@@ -67,14 +43,14 @@ put-tags-spec =
     Inv-loop
     μ-loop
     loop-holds
-    mul-put4
-    add-put4
-    mul-put4-2
-    shared-slice-read-put4
+    (λ c. omega arith)  -- mul-put4
+    (λ c. omega arith)  -- add-put4
+    (λ c. omega arith)  -- mul-put4-2
+    (λ c. omega arith)  -- shared-slice-read-put4
     cast-put4
-    put4-requires
-    add-i
-    loop-less
+    (λ c κs. omega arith)  -- put4-requires
+    (λ c. omega arith)  -- add-i
+    (λ c. omega arith)  -- loop-less
     loop-again
-    same-length
+    (λ c. search needs)  -- same-length
     returns)

@@ -14,45 +14,6 @@ use Rattle.slices.proofs.Laws.WrittenLaws.{written-then}
 use Rattle.image.proofs.write_image.Statement.{statement}
 use Rattle.image.proofs.write_image.Tie as tie
 
-put2-requires : tie.Need-put2-requires
-put2-requires c κs = search needs
-
-put2-requires-2 : tie.Need-put2-requires-2
-put2-requires-2 c κs = search needs
-
-put-tags-requires : tie.Need-put-tags-requires
-put-tags-requires c κs = search needs
-
-mul-put-args : tie.Need-mul-put-args
-mul-put-args c = search needs
-
-add-put-args : tie.Need-add-put-args
-add-put-args c = search needs
-
-put-args-requires : tie.Need-put-args-requires
-put-args-requires c κs = search needs
-
-mul-put-names : tie.Need-mul-put-names
-mul-put-names c = search needs
-
-add-put-names : tie.Need-add-put-names
-add-put-names c = search needs
-
-put-names-requires : tie.Need-put-names-requires
-put-names-requires c κs = search needs
-
-mul-result : tie.Need-mul-result
-mul-result c = search needs
-
-add-result : tie.Need-add-result
-add-result c = search needs
-
-add-result-2 : tie.Need-add-result-2
-add-result-2 c = search needs
-
-same-length : tie.Need-same-length
-same-length c = search needs
-
 -- the five parts, where n tags, n arguments and m name bytes are written
 parts : {s₁ s₂ s₃ s₄ s₅ : List ℕ} {n m : ℕ} (s ts xs ws : List ℕ) → length ts ≡ n → length xs ≡ n → length ws ≡ m → s₁ ≡ written s 0 (leBytes 2 n) → s₂ ≡ written s₁ 2 (leBytes 2 m) → s₃ ≡ written s₂ 4 (packed 4 ts) → s₄ ≡ written s₃ (4 + 4 * n) (packed 8 xs) → s₅ ≡ written s₄ (4 + 12 * n) ws → s₅ ≡ written s 0 (imageOf n ts xs ws)
 unfolding imageOf
@@ -79,17 +40,17 @@ pub write-image-spec : {M : Type 1} → statement M
 write-image-spec =
     tie.close
     (tie.spec
-    put2-requires
-    put2-requires-2
-    put-tags-requires
-    mul-put-args
-    add-put-args
-    put-args-requires
-    mul-put-names
-    add-put-names
-    put-names-requires
-    mul-result
-    add-result
-    add-result-2
-    same-length
+    (λ c κs. search needs)  -- put2-requires
+    (λ c κs. search needs)  -- put2-requires-2
+    (λ c κs. search needs)  -- put-tags-requires
+    (λ c. search needs)  -- mul-put-args
+    (λ c. search needs)  -- add-put-args
+    (λ c κs. search needs)  -- put-args-requires
+    (λ c. search needs)  -- mul-put-names
+    (λ c. search needs)  -- add-put-names
+    (λ c κs. search needs)  -- put-names-requires
+    (λ c. search needs)  -- mul-result
+    (λ c. search needs)  -- add-result
+    (λ c. search needs)  -- add-result-2
+    (λ c. search needs)  -- same-length
     returns)

@@ -7,7 +7,7 @@ use native.Mathlib.Nat.{add-zero}
 use native.Mathlib.Omega.{arith}
 use borrow.Author.Tests.{eq-eqb}
 use lib.Dec.{eqb}
-use lib.ListN.{length, set, getD, length-append}
+use lib.ListN.{length, getD, length-append}
 use Rattle.rules.specs.Rule.{named, olderThan, readable, Join, atLeast, all, any, Rule, leaf, node, Rules, nil, more, size, sizes}
 use Rattle.image.specs.Encode.{leafKind, joinKind, tag, joinArg, tags, tagsAll, args, argsAll, names, namesAll}
 use Rattle.image.proofs.Laws.EncodeLaws.{leaf-kind, join-kind, length-tags, length-tagsAll}

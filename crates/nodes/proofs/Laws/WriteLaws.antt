@@ -1,5 +1,5 @@
--- Laws of the nodes that are written: a leaf's with its name, a combinator's, a list's. Assumes nothing.
-use mathlib.Core.Path.{_≡_, refl, sym, ap, subst, _∙_}
+-- Laws of the nodes that are written: a leaf's with its name, a combinator's. Assumes nothing.
+use mathlib.Core.Path.{_≡_, refl, sym, ap, _∙_}
 use mathlib.Core.List.{List, [], _++_, append-nil}
 use Prim.Native.Nat.{ℕ, _+_, _-_, _*_, _<_}
 use native.Mathlib.Nat.{add-zero}
@@ -7,15 +7,14 @@ use native.Mathlib.Omega.{arith}
 use lib.ListN.{length, take, set}
 use Rattle.slices.specs.Text.{part}
 use Rattle.slices.proofs.Laws.TextLaws.{part-length}
-use Rattle.refusals.specs.declared.Refusal.{Refusal}
 use Rattle.rules.specs.Rule.{Leaf, named, olderThan, readable, Join}
 use Rattle.image.specs.Encode.{leafKind, joinKind, tag, leafArg, joinArg, leafName, tags, args, names}
 use Rattle.grammar.specs.Inner.Heads.{leafOf}
 use Rattle.grammar.specs.declared.Test.{Test}
 use Rattle.grammar.specs.declared.Test.the-variants.{OlderThan, Readable}
 use Rattle.nodes.specs.declared.Reach.{Reach}
-use Rattle.nodes.specs.declared.Reach.the-variants.{Done, Refused}
-use Rattle.nodes.specs.Inner.Parses.{Arrays, arrays, NameRoom, Written, Joined, Listed}
+use Rattle.nodes.specs.declared.Reach.the-variants.{Done}
+use Rattle.nodes.specs.Inner.Parses.{Arrays, arrays, NameRoom, Written, Joined}
 use Rattle.nodes.proofs.Laws.ArrayLaws.{snoc, holds-none}
 
 -- ---- a leaf
@@ -69,19 +68,3 @@ module _ {next n m k x : ℕ} {t a t₁ a₁ : List ℕ} {r : Reach} (lt : n < l
 module _ {j : Join} {first : ℕ} {t a t₁ a₁ : List ℕ} where
   pub joined : {n k x : ℕ} → k ≡ joinKind j → x ≡ joinArg j → t₁ ≡ set t n (tag k (n - first + 1)) → a₁ ≡ set a n x → Joined j first n t a t₁ a₁
   joined {n} qk qx p q = record { tags = p ∙ ap (λ (i : ℕ). set t n (tag i (n - first + 1))) qk; args = q ∙ ap (set a n) qx }
-
-  pub list-refused : {all r : Reach} {x : Refusal} → all ≡ Refused x → r ≡ Refused x → Listed j first t a t₁ a₁ all r
-  list-refused {x = x} h q = record {
-    done = λ e n m p. let z : _≡_ {A = ℕ} 0 1 = cc in absurd (omega arith);
-    refused = λ y p. let same : x ≡ y = cc in cc;
-  }
-
-  pub list-written : {all r : Reach} {e n m n₁ : ℕ} → all ≡ Done e n m → r ≡ Done e n₁ m → n₁ ≡ n + 1 → Joined j first n t a t₁ a₁ → Listed j first t a t₁ a₁ all r
-  list-written {e = e} {n = n} {m = m} h q more w = record {
-    done = λ e′ n′ m′ p.
-        let qe : e ≡ e′ = cc in
-        let qn : n ≡ n′ = cc in
-        let qm : m ≡ m′ = cc in
-        (rw (← qe, ← qn, ← qm) (q ∙ ap (λ (i : ℕ). Done e i m) more), subst (λ (i : ℕ). Joined j first i t a t₁ a₁) qn w);
-    refused = λ x p. let z : _≡_ {A = ℕ} 0 1 = cc in absurd (omega arith);
-  }

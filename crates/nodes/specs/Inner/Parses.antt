@@ -95,15 +95,6 @@ pub record Joined (j : Join) (first n : ℕ) (t a t₁ a₁ : List ℕ) : Type 0
   pub tags : t₁ ≡ set t n (image.tag (image.joinKind j) (n - first + 1))
   pub args : a₁ ≡ set a n (image.joinArg j)
 
--- room for it where a list's arguments were read
-abbrev pub ListRoom : (first : ℕ) (t a : List ℕ) → Reach → Type 0
-ListRoom first t a all = (e n m : ℕ) → all ≡ Done e n m → JoinRoom first n t a
-
--- it was written where they were read; else their refusal is the answer
-pub record Listed (j : Join) (first : ℕ) (t a t₁ a₁ : List ℕ) (all r : Reach) : Type 0 where
-  pub done : (e n m : ℕ) → all ≡ Done e n m → (r ≡ Done e (n + 1) m) × Joined j first n t a t₁ a₁
-  pub refused : (x : Refusal) → all ≡ Refused x → r ≡ Refused x
-
 -- one less where a chain goes on in its left side
 abbrev pub keepIf : Bool → ℕ → ℕ
 keepIf true n = n - 1

@@ -15,7 +15,7 @@ use Rattle.grammar.specs.Inner.Heads.{joinOf, headNext, left}
 use Rattle.grammar.proofs.Laws.HeadLaws.{head-is, head-ahead}
 use Rattle.nodes.specs.Inner.Parses.{arrays}
 use Rattle.nodes.proofs.Laws.ParseLaws.{and-level, or-level}
-use Rattle.parser.proofs.Laws.OperandLaws.{lengths, Chaining, chain-refused, chain-begin, chain-stop, operand-asks, operand-follows, chain-lengths, right-before, right-room, right-fewer, right-fails, chain-turn}
+use Rattle.parser.proofs.Laws.OperandLaws.{lengths, Chaining, chain-refused, chain-begin, chain-stop, operand-asks, operand-follows, right-before, right-room, right-fewer, right-fails, chain-turn}
 use Rattle.parser.proofs.Laws.PrimaryLaws.{primary-refused, name-room, name-read, test-room, test-read, group-before, group-refused, group-done}
 use Rattle.parser.proofs.Laws.ArgumentLaws.{argumentsLeft, Arguments, list-first, list-room, list-end, argument-before, arguments-fewer, list-next}
 use Rattle.parser.proofs.parse_and.Reads as parse-and
@@ -28,12 +28,12 @@ use Rattle.parser.proofs.parse_primary.Reads as parse-primary
 use Rattle.parser.proofs.parse_primary.Kinds as parse-primary-kinds
 use Rattle.parser.proofs.+parse_and+parse_or+parse_primary.Lts-parse_primary as parse-primary-lts
 use Rattle.endings.proofs.close_group.Reads as close-group-reads
+use Rattle.endings.proofs.close_list.Reads as close-list-reads
 use Rattle.endings.proofs.first_argument.Reads as first-argument-reads
 use Rattle.endings.proofs.next_argument.Reads as next-argument-reads
 use Rattle.endings.proofs.next_operand.Reads as next-operand-reads
 use Rattle.heads.proofs.head_at.Reads as head-at-reads
 use Rattle.nodes.proofs.push_combinator.Reads as push-combinator-reads
-use Rattle.nodes.proofs.push_list.Reads as push-list-reads
 use Rattle.nodes.proofs.push_name.Reads as push-name-reads
 use Rattle.nodes.proofs.push_test.Reads as push-test-reads
 use Rattle.parser.proofs.+parse_and+parse_or+parse_primary.{statement}
@@ -89,7 +89,7 @@ parse-and-returns : (t : ℕ) → parse-and-lts.Need-returns (parse-and-calls t)
 parse-and-returns t c =
     let first = c .before .before .before .before .before .before .before .before in
     let entry = first .before .before .before .before .before .before .before .before in
-    chain-refused (and-level (entry .args .text .now) (entry .args .depth) (entry .args .at)) (entry .pre .1) (omega arith) (first .parse-primary .ensures) (c .enum-told .given .1)
+    chain-refused (and-level _ _ _) (entry .pre .1) (omega arith) (first .parse-primary .ensures) (c .enum-told .given .1)
 
 parse-and-loop-holds : (t : ℕ) → parse-and-lts.Need-loop-holds (parse-and-calls t) (parse-and-at t) parse-and.Post parse-and-Inv-loop parse-and-μ-loop
 parse-and-loop-holds t c =
@@ -97,29 +97,11 @@ parse-and-loop-holds t c =
     let first = done .before .before .before .before .before .before .before .before in
     let entry = first .before .before .before .before .before .before .before .before in
     let same = first .parse-primary .kept .1 .1 .1 in
-    chain-begin (and-level (entry .args .text .now) (entry .args .depth) (entry .args .at)) (entry .pre .1) (omega arith) (first .parse-primary .ensures) (lengths (same .0) (same .1 .0) (same .1 .1 .0)) (done .first .given .1)
+    chain-begin (and-level _ _ _) (entry .pre .1) (omega arith) (first .parse-primary .ensures) (lengths (same .0) (same .1 .0) (same .1 .1 .0)) (done .first .given .1)
 
 parse-and-next-operand-requires : (t : ℕ) → parse-and-lts.Need-next-operand-requires (parse-and-calls t) (parse-and-at t) parse-and.Post parse-and-Inv-loop parse-and-μ-loop
 parse-and-next-operand-requires t c κs =
     operand-asks (c .before .loop .inv) (omega arith)
-
-parse-and-same-length-4 : (t : ℕ) → parse-and-lts.Need-same-length-4 (parse-and-calls t) (parse-and-at t) parse-and.Post parse-and-Inv-loop parse-and-μ-loop
-parse-and-same-length-4 t c =
-    let loop = c .before .before .before .before in
-    let same = loop .before .before .before .before .before .before .before .before .before .before .parse-primary .kept .1 .1 .1 in
-    chain-lengths (loop .loop .inv) .tags ∙ same .0
-
-parse-and-same-length-5 : (t : ℕ) → parse-and-lts.Need-same-length-5 (parse-and-calls t) (parse-and-at t) parse-and.Post parse-and-Inv-loop parse-and-μ-loop
-parse-and-same-length-5 t c =
-    let loop = c .before .before .before .before in
-    let same = loop .before .before .before .before .before .before .before .before .before .before .parse-primary .kept .1 .1 .1 in
-    chain-lengths (loop .loop .inv) .args ∙ same .1 .0
-
-parse-and-same-length-6 : (t : ℕ) → parse-and-lts.Need-same-length-6 (parse-and-calls t) (parse-and-at t) parse-and.Post parse-and-Inv-loop parse-and-μ-loop
-parse-and-same-length-6 t c =
-    let loop = c .before .before .before .before in
-    let same = loop .before .before .before .before .before .before .before .before .before .before .parse-primary .kept .1 .1 .1 in
-    chain-lengths (loop .loop .inv) .names ∙ same .1 .1 .0
 
 parse-and-returns-2 : (t : ℕ) → parse-and-lts.Need-returns-2 (parse-and-calls t) (parse-and-at t) parse-and.Post parse-and-Inv-loop parse-and-μ-loop
 parse-and-returns-2 t c =
@@ -129,7 +111,7 @@ parse-and-returns-2 t c =
     let first = done .before .before .before .before .before .before .before .before in
     let entry = first .before .before .before .before .before .before .before .before in
     let same = first .parse-primary .kept .1 .1 .1 in
-    chain-stop (and-level (entry .args .text .now) (entry .args .depth) (entry .args .at)) (entry .pre .1) (omega arith) (first .parse-primary .ensures) (lengths (same .0) (same .1 .0) (same .1 .1 .0)) (done .first .given .1) (loop .loop .inv)
+    chain-stop (and-level _ _ _) (entry .pre .1) (omega arith) (first .parse-primary .ensures) (lengths (same .0) (same .1 .0) (same .1 .1 .0)) (done .first .given .1) (loop .loop .inv)
     (omega arith) (operand .next-operand .ensures) (c .enum-told2 .given .1) refl
 
 parse-and-parse-primary-requires-2 : (t : ℕ) → parse-and-lts.Need-parse-primary-requires-2 (parse-and-calls t) (parse-and-at t) parse-and.Post parse-and-Inv-loop parse-and-μ-loop
@@ -142,27 +124,6 @@ parse-and-parse-primary-requires-2 t c κs =
     let entry = loop .before .before .before .before .before .before .before .before .before .before .before .before .before .before .before .before .before .before in
     (omega (arith, entry .pre .0, inv .sofar .fewer, f .signed .bounds .2), right-before inv f)
 
-parse-and-same-length-7 : (t : ℕ) → parse-and-lts.Need-same-length-7 (parse-and-calls t) (parse-and-at t) parse-and.Post parse-and-Inv-loop parse-and-μ-loop
-parse-and-same-length-7 t c =
-    let right = c .before .before .before .before .before .before .before .before in
-    let loop = right .before .before .before .before .before .before .before .before .before in
-    let same = loop .before .before .before .before .before .before .before .before .before .before .parse-primary .kept .1 .1 .1 in
-    right .parse-primary2 .kept .1 .1 .1 .0 ∙ chain-lengths (loop .loop .inv) .tags ∙ same .0
-
-parse-and-same-length-8 : (t : ℕ) → parse-and-lts.Need-same-length-8 (parse-and-calls t) (parse-and-at t) parse-and.Post parse-and-Inv-loop parse-and-μ-loop
-parse-and-same-length-8 t c =
-    let right = c .before .before .before .before .before .before .before .before in
-    let loop = right .before .before .before .before .before .before .before .before .before in
-    let same = loop .before .before .before .before .before .before .before .before .before .before .parse-primary .kept .1 .1 .1 in
-    right .parse-primary2 .kept .1 .1 .1 .1 .0 ∙ chain-lengths (loop .loop .inv) .args ∙ same .1 .0
-
-parse-and-same-length-9 : (t : ℕ) → parse-and-lts.Need-same-length-9 (parse-and-calls t) (parse-and-at t) parse-and.Post parse-and-Inv-loop parse-and-μ-loop
-parse-and-same-length-9 t c =
-    let right = c .before .before .before .before .before .before .before .before in
-    let loop = right .before .before .before .before .before .before .before .before .before in
-    let same = loop .before .before .before .before .before .before .before .before .before .before .parse-primary .kept .1 .1 .1 in
-    right .parse-primary2 .kept .1 .1 .1 .1 .1 .0 ∙ chain-lengths (loop .loop .inv) .names ∙ same .1 .1 .0
-
 parse-and-returns-3 : (t : ℕ) → parse-and-lts.Need-returns-3 (parse-and-calls t) (parse-and-at t) parse-and.Post parse-and-Inv-loop parse-and-μ-loop
 parse-and-returns-3 t c =
     let right = c .before .before .before .before .before .before .before .before in
@@ -171,8 +132,7 @@ parse-and-returns-3 t c =
     let loop = operand .before .before in
     let inv = loop .loop .inv in
     let f = operand-follows inv andSign (joinKind all) (operand .next-operand .ensures) (next .next .given .1) in
-    let entry = loop .before .before .before .before .before .before .before .before .before .before .before .before .before .before .before .before .before .before in
-    right-fails (and-level (entry .args .text .now) (entry .args .depth) (entry .args .at)) inv f (omega arith) (right .parse-primary2 .ensures) (c .enum-told3 .given .1)
+    right-fails (and-level _ _ _) inv f (omega arith) (right .parse-primary2 .ensures) (c .enum-told3 .given .1)
 
 parse-and-push-combinator-requires : (t : ℕ) → parse-and-lts.Need-push-combinator-requires (parse-and-calls t) (parse-and-at t) parse-and.Post parse-and-Inv-loop parse-and-μ-loop
 parse-and-push-combinator-requires t c κs =
@@ -205,12 +165,11 @@ parse-and-loop-again t c =
     let loop = operand .before .before in
     let inv = loop .loop .inv in
     let f = operand-follows inv andSign (joinKind all) (operand .next-operand .ensures) (next .next .given .1) in
-    let entry = loop .before .before .before .before .before .before .before .before .before .before .before .before .before .before .before .before .before .before in
     let pushed = c .before .before .before .before in
     let done = c .before .before .before .before .before .before .before .before in
     let right = done .before .before .before .before .before .before .before .before in
     let new = right .parse-primary2 .kept .1 .1 .1 in
-    chain-turn (and-level (entry .args .text .now) (entry .args .depth) (entry .args .at)) inv f (omega arith) (right .parse-primary2 .ensures) (lengths (new .0) (new .1 .0) (new .1 .1 .0)) (done .right .given .1) (pushed .push-combinator .ensures) refl
+    chain-turn (and-level _ _ _) inv f (omega arith) (right .parse-primary2 .ensures) (lengths (new .0) (new .1 .0) (new .1 .1 .0)) (done .right .given .1) (pushed .push-combinator .ensures) refl
 
 -- ---- parse_or
 abbrev parse-or-Inv-loop : parse-or-lts.InvT-loop
@@ -227,7 +186,7 @@ parse-or-returns : (t : ℕ) → parse-or-lts.Need-returns (parse-or-calls t) (p
 parse-or-returns t c =
     let first = c .before .before .before .before .before .before .before .before in
     let entry = first .before .before .before .before .before .before .before .before in
-    chain-refused (or-level (entry .args .text .now) (entry .args .depth) (entry .args .at)) (entry .pre .1) (omega arith) (first .parse-and .ensures) (c .enum-told .given .1)
+    chain-refused (or-level _ _ _) (entry .pre .1) (omega arith) (first .parse-and .ensures) (c .enum-told .given .1)
 
 parse-or-loop-holds : (t : ℕ) → parse-or-lts.Need-loop-holds (parse-or-calls t) (parse-or-at t) parse-or.Post parse-or-Inv-loop parse-or-μ-loop
 parse-or-loop-holds t c =
@@ -235,29 +194,11 @@ parse-or-loop-holds t c =
     let first = done .before .before .before .before .before .before .before .before in
     let entry = first .before .before .before .before .before .before .before .before in
     let same = first .parse-and .kept .1 .1 .1 in
-    chain-begin (or-level (entry .args .text .now) (entry .args .depth) (entry .args .at)) (entry .pre .1) (omega arith) (first .parse-and .ensures) (lengths (same .0) (same .1 .0) (same .1 .1 .0)) (done .first .given .1)
+    chain-begin (or-level _ _ _) (entry .pre .1) (omega arith) (first .parse-and .ensures) (lengths (same .0) (same .1 .0) (same .1 .1 .0)) (done .first .given .1)
 
 parse-or-next-operand-requires : (t : ℕ) → parse-or-lts.Need-next-operand-requires (parse-or-calls t) (parse-or-at t) parse-or.Post parse-or-Inv-loop parse-or-μ-loop
 parse-or-next-operand-requires t c κs =
     operand-asks (c .before .loop .inv) (omega arith)
-
-parse-or-same-length-4 : (t : ℕ) → parse-or-lts.Need-same-length-4 (parse-or-calls t) (parse-or-at t) parse-or.Post parse-or-Inv-loop parse-or-μ-loop
-parse-or-same-length-4 t c =
-    let loop = c .before .before .before .before in
-    let same = loop .before .before .before .before .before .before .before .before .before .before .parse-and .kept .1 .1 .1 in
-    chain-lengths (loop .loop .inv) .tags ∙ same .0
-
-parse-or-same-length-5 : (t : ℕ) → parse-or-lts.Need-same-length-5 (parse-or-calls t) (parse-or-at t) parse-or.Post parse-or-Inv-loop parse-or-μ-loop
-parse-or-same-length-5 t c =
-    let loop = c .before .before .before .before in
-    let same = loop .before .before .before .before .before .before .before .before .before .before .parse-and .kept .1 .1 .1 in
-    chain-lengths (loop .loop .inv) .args ∙ same .1 .0
-
-parse-or-same-length-6 : (t : ℕ) → parse-or-lts.Need-same-length-6 (parse-or-calls t) (parse-or-at t) parse-or.Post parse-or-Inv-loop parse-or-μ-loop
-parse-or-same-length-6 t c =
-    let loop = c .before .before .before .before in
-    let same = loop .before .before .before .before .before .before .before .before .before .before .parse-and .kept .1 .1 .1 in
-    chain-lengths (loop .loop .inv) .names ∙ same .1 .1 .0
 
 parse-or-returns-2 : (t : ℕ) → parse-or-lts.Need-returns-2 (parse-or-calls t) (parse-or-at t) parse-or.Post parse-or-Inv-loop parse-or-μ-loop
 parse-or-returns-2 t c =
@@ -267,7 +208,7 @@ parse-or-returns-2 t c =
     let first = done .before .before .before .before .before .before .before .before in
     let entry = first .before .before .before .before .before .before .before .before in
     let same = first .parse-and .kept .1 .1 .1 in
-    chain-stop (or-level (entry .args .text .now) (entry .args .depth) (entry .args .at)) (entry .pre .1) (omega arith) (first .parse-and .ensures) (lengths (same .0) (same .1 .0) (same .1 .1 .0)) (done .first .given .1) (loop .loop .inv)
+    chain-stop (or-level _ _ _) (entry .pre .1) (omega arith) (first .parse-and .ensures) (lengths (same .0) (same .1 .0) (same .1 .1 .0)) (done .first .given .1) (loop .loop .inv)
     (omega arith) (operand .next-operand .ensures) (c .enum-told2 .given .1) refl
 
 parse-or-parse-and-requires-2 : (t : ℕ) → parse-or-lts.Need-parse-and-requires-2 (parse-or-calls t) (parse-or-at t) parse-or.Post parse-or-Inv-loop parse-or-μ-loop
@@ -280,27 +221,6 @@ parse-or-parse-and-requires-2 t c κs =
     let entry = loop .before .before .before .before .before .before .before .before .before .before .before .before .before .before .before .before .before .before in
     (omega (arith, entry .pre .0, inv .sofar .fewer, f .signed .bounds .2), right-before inv f)
 
-parse-or-same-length-7 : (t : ℕ) → parse-or-lts.Need-same-length-7 (parse-or-calls t) (parse-or-at t) parse-or.Post parse-or-Inv-loop parse-or-μ-loop
-parse-or-same-length-7 t c =
-    let right = c .before .before .before .before .before .before .before .before in
-    let loop = right .before .before .before .before .before .before .before .before .before in
-    let same = loop .before .before .before .before .before .before .before .before .before .before .parse-and .kept .1 .1 .1 in
-    right .parse-and2 .kept .1 .1 .1 .0 ∙ chain-lengths (loop .loop .inv) .tags ∙ same .0
-
-parse-or-same-length-8 : (t : ℕ) → parse-or-lts.Need-same-length-8 (parse-or-calls t) (parse-or-at t) parse-or.Post parse-or-Inv-loop parse-or-μ-loop
-parse-or-same-length-8 t c =
-    let right = c .before .before .before .before .before .before .before .before in
-    let loop = right .before .before .before .before .before .before .before .before .before in
-    let same = loop .before .before .before .before .before .before .before .before .before .before .parse-and .kept .1 .1 .1 in
-    right .parse-and2 .kept .1 .1 .1 .1 .0 ∙ chain-lengths (loop .loop .inv) .args ∙ same .1 .0
-
-parse-or-same-length-9 : (t : ℕ) → parse-or-lts.Need-same-length-9 (parse-or-calls t) (parse-or-at t) parse-or.Post parse-or-Inv-loop parse-or-μ-loop
-parse-or-same-length-9 t c =
-    let right = c .before .before .before .before .before .before .before .before in
-    let loop = right .before .before .before .before .before .before .before .before .before in
-    let same = loop .before .before .before .before .before .before .before .before .before .before .parse-and .kept .1 .1 .1 in
-    right .parse-and2 .kept .1 .1 .1 .1 .1 .0 ∙ chain-lengths (loop .loop .inv) .names ∙ same .1 .1 .0
-
 parse-or-returns-3 : (t : ℕ) → parse-or-lts.Need-returns-3 (parse-or-calls t) (parse-or-at t) parse-or.Post parse-or-Inv-loop parse-or-μ-loop
 parse-or-returns-3 t c =
     let right = c .before .before .before .before .before .before .before .before in
@@ -309,8 +229,7 @@ parse-or-returns-3 t c =
     let loop = operand .before .before in
     let inv = loop .loop .inv in
     let f = operand-follows inv orSign (joinKind any) (operand .next-operand .ensures) (next .next .given .1) in
-    let entry = loop .before .before .before .before .before .before .before .before .before .before .before .before .before .before .before .before .before .before in
-    right-fails (or-level (entry .args .text .now) (entry .args .depth) (entry .args .at)) inv f (omega arith) (right .parse-and2 .ensures) (c .enum-told3 .given .1)
+    right-fails (or-level _ _ _) inv f (omega arith) (right .parse-and2 .ensures) (c .enum-told3 .given .1)
 
 parse-or-push-combinator-requires : (t : ℕ) → parse-or-lts.Need-push-combinator-requires (parse-or-calls t) (parse-or-at t) parse-or.Post parse-or-Inv-loop parse-or-μ-loop
 parse-or-push-combinator-requires t c κs =
@@ -343,12 +262,11 @@ parse-or-loop-again t c =
     let loop = operand .before .before in
     let inv = loop .loop .inv in
     let f = operand-follows inv orSign (joinKind any) (operand .next-operand .ensures) (next .next .given .1) in
-    let entry = loop .before .before .before .before .before .before .before .before .before .before .before .before .before .before .before .before .before .before in
     let pushed = c .before .before .before .before in
     let done = c .before .before .before .before .before .before .before .before in
     let right = done .before .before .before .before .before .before .before .before in
     let new = right .parse-and2 .kept .1 .1 .1 in
-    chain-turn (or-level (entry .args .text .now) (entry .args .depth) (entry .args .at)) inv f (omega arith) (right .parse-and2 .ensures) (lengths (new .0) (new .1 .0) (new .1 .1 .0)) (done .right .given .1) (pushed .push-combinator .ensures) refl
+    chain-turn (or-level _ _ _) inv f (omega arith) (right .parse-and2 .ensures) (lengths (new .0) (new .1 .0) (new .1 .1 .0)) (done .right .given .1) (pushed .push-combinator .ensures) refl
 
 -- ---- parse_primary
 abbrev parse-primary-Inv-loop : parse-primary-lts.InvT-loop
@@ -359,7 +277,7 @@ abbrev parse-primary-μ-loop : parse-primary-lts.MeasureT-loop
 parse-primary-μ-loop text at depth tags₀ args₀ names₀ n m class combinator place next argument₀ tags args names argument = argumentsLeft text argument
 
 abbrev parse-primary-calls : ℕ → parse-primary-lts.Claims
-parse-primary-calls t = (head-at-reads.Asked, head-at-reads.Learnt, push-name-reads.Asked, push-name-reads.Learnt, push-test-reads.Asked, push-test-reads.Learnt, parse-or-below t, parse-or.Post, close-group-reads.Asked, close-group-reads.Learnt, first-argument-reads.Asked, first-argument-reads.Learnt, next-argument-reads.Asked, next-argument-reads.Learnt, push-list-reads.Asked, push-list-reads.Learnt)
+parse-primary-calls t = (head-at-reads.Asked, head-at-reads.Learnt, push-name-reads.Asked, push-name-reads.Learnt, push-test-reads.Asked, push-test-reads.Learnt, parse-or-below t, parse-or.Post, close-group-reads.Asked, close-group-reads.Learnt, first-argument-reads.Asked, first-argument-reads.Learnt, next-argument-reads.Asked, next-argument-reads.Learnt, close-list-reads.Asked, close-list-reads.Learnt)
 
 parse-primary-push-name-requires : (t : ℕ) → parse-primary-lts.Need-push-name-requires (parse-primary-calls t) (parse-primary-at t) parse-primary.Post parse-primary-Inv-loop parse-primary-μ-loop
 parse-primary-push-name-requires t c κs =
@@ -391,7 +309,7 @@ parse-primary-loop-holds t c =
     let case = c .before .before in
     let head = case .before .before in
     let entry = head .before .before .before .before .before in
-    list-first (entry .args .text .now) (entry .args .depth) (entry .args .at) _ (head-is (entry .args .at) (head .head-at .ensures) (case .combinator .given .1)) (head-ahead (entry .args .at) (head .head-at .ensures) (ap headNext (case .combinator .given .1))) (entry .pre .1 .long) (c .first-argument .ensures)
+    list-first _ _ _ _ (head-is (entry .args .at) (head .head-at .ensures) (case .combinator .given .1)) (head-ahead (entry .args .at) (head .head-at .ensures) (ap headNext (case .combinator .given .1))) (entry .pre .1 .long) (c .first-argument .ensures)
 
 parse-primary-add-parse-or-2 : (t : ℕ) → parse-primary-lts.Need-add-parse-or-2 (parse-primary-calls t) (parse-primary-at t) parse-primary.Post parse-primary-Inv-loop parse-primary-μ-loop
 parse-primary-add-parse-or-2 t c =
@@ -425,8 +343,8 @@ parse-primary-loop-again t c =
     let same = read .parse-or2 .kept .1 .1 .1 in
     list-next _ _ _ _ (loop .loop .inv) (next .argument .given .1) (read .parse-or2 .result) (entry .pre .1 .roomy) (lengths (same .0) (same .1 .0) (same .1 .1 .0)) (read .parse-or2 .ensures) (c .next-argument .ensures)
 
-parse-primary-push-list-requires : (t : ℕ) → parse-primary-lts.Need-push-list-requires (parse-primary-calls t) (parse-primary-at t) parse-primary.Post parse-primary-Inv-loop parse-primary-μ-loop
-parse-primary-push-list-requires t c κs =
+parse-primary-close-list-requires : (t : ℕ) → parse-primary-lts.Need-close-list-requires (parse-primary-calls t) (parse-primary-at t) parse-primary.Post parse-primary-Inv-loop parse-primary-μ-loop
+parse-primary-close-list-requires t c κs =
     let end = c .before .before .before in
     let loop = end .before .before in
     let entry = loop .before .before .before .before .before .before .before .before .before .before in
@@ -436,14 +354,14 @@ parse-primary-same-length : (t : ℕ) → parse-primary-lts.Need-same-length (pa
 parse-primary-same-length t c =
     let pushed = c .before .before .before .before in
     let loop = pushed .before .before .before .before .before .before in
-    pushed .push-list .kept .0 ∙ loop .loop .inv .long .tags
+    pushed .close-list .kept .0 ∙ loop .loop .inv .long .tags
 
 parse-primary-same-length-2 : (t : ℕ) → parse-primary-lts.Need-same-length-2 (parse-primary-calls t) (parse-primary-at t) parse-primary.Post parse-primary-Inv-loop parse-primary-μ-loop
 parse-primary-same-length-2 t c =
     let pushed = c .before .before .before .before in
     let loop = pushed .before .before .before .before .before .before in
     let entry = loop .before .before .before .before .before .before .before .before .before .before in
-    pushed .push-list .kept .1 .0 ∙ loop .loop .inv .long .args ∙ sym (entry .pre .1 .long .args)
+    pushed .close-list .kept .1 .0 ∙ loop .loop .inv .long .args ∙ sym (entry .pre .1 .long .args)
 
 parse-primary-same-length-3 : (t : ℕ) → parse-primary-lts.Need-same-length-3 (parse-primary-calls t) (parse-primary-at t) parse-primary.Post parse-primary-Inv-loop parse-primary-μ-loop
 parse-primary-same-length-3 t c =
@@ -456,7 +374,7 @@ parse-primary-returns t c =
     let pushed = c .before .before .before .before in
     let end = pushed .before .before .before .before in
     let loop = end .before .before in
-    list-end _ _ _ _ (loop .loop .inv) (end .argument2 .given .0 .0) (end .argument2 .given .1) (pushed .push-list .ensures) refl
+    list-end _ _ _ _ (loop .loop .inv) (end .argument2 .given .0 .0) (end .argument2 .given .1) (pushed .close-list .ensures) refl
 
 parse-primary-returns-2 : (t : ℕ) → parse-primary-lts.Need-returns-2 (parse-primary-calls t) (parse-primary-at t) parse-primary.Post parse-primary-Inv-loop parse-primary-μ-loop
 parse-primary-returns-2 t c =
@@ -511,16 +429,16 @@ pub +parse-and+parse-or+parse-primary-spec : {M : Type 1} → statement M
     (parse-and-next-operand-requires t)
     (λ c. search needs)  -- enum-known-next
     (λ c. search needs)  -- enum-told-2
-    (parse-and-same-length-4 t)
-    (parse-and-same-length-5 t)
-    (parse-and-same-length-6 t)
+    (λ c. omega arith)  -- same-length-4
+    (λ c. omega arith)  -- same-length-5
+    (λ c. omega arith)  -- same-length-6
     (parse-and-returns-2 t)
     (parse-and-parse-primary-requires-2 t)
     (λ c. search needs)  -- enum-known-right
     (λ c. search needs)  -- enum-told-3
-    (parse-and-same-length-7 t)
-    (parse-and-same-length-8 t)
-    (parse-and-same-length-9 t)
+    (λ c. omega arith)  -- same-length-7
+    (λ c. omega arith)  -- same-length-8
+    (λ c. omega arith)  -- same-length-9
     (parse-and-returns-3 t)
     (parse-and-push-combinator-requires t)
     (parse-and-loop-less t)
@@ -541,16 +459,16 @@ pub +parse-and+parse-or+parse-primary-spec : {M : Type 1} → statement M
     (parse-or-next-operand-requires t)
     (λ c. search needs)  -- enum-known-next
     (λ c. search needs)  -- enum-told-2
-    (parse-or-same-length-4 t)
-    (parse-or-same-length-5 t)
-    (parse-or-same-length-6 t)
+    (λ c. omega arith)  -- same-length-4
+    (λ c. omega arith)  -- same-length-5
+    (λ c. omega arith)  -- same-length-6
     (parse-or-returns-2 t)
     (parse-or-parse-and-requires-2 t)
     (λ c. search needs)  -- enum-known-right
     (λ c. search needs)  -- enum-told-3
-    (parse-or-same-length-7 t)
-    (parse-or-same-length-8 t)
-    (parse-or-same-length-9 t)
+    (λ c. omega arith)  -- same-length-7
+    (λ c. omega arith)  -- same-length-8
+    (λ c. omega arith)  -- same-length-9
     (parse-or-returns-3 t)
     (parse-or-push-combinator-requires t)
     (parse-or-loop-less t)
@@ -582,7 +500,7 @@ pub +parse-and+parse-or+parse-primary-spec : {M : Type 1} → statement M
     (parse-primary-loop-less t)
     (parse-primary-loop-again t)
     (λ c. search needs)  -- enum-known-argument-2
-    (parse-primary-push-list-requires t)
+    (parse-primary-close-list-requires t)
     (parse-primary-same-length t)
     (parse-primary-same-length-2 t)
     (parse-primary-same-length-3 t)

@@ -1,27 +1,26 @@
 -- Laws of a group's end, and of a list's loop: what it keeps, an argument that was read, the list's end. Assumes nothing.
 use Prim.Native.Nat.{ℕ, _+_, _-_, _*_, _≤_, _<_}
-use mathlib.Core.Path.{_≡_, refl, sym, ap, subst, _∙_}
+use mathlib.Core.Path.{_≡_, refl, sym, ap, _∙_}
 use mathlib.Core.List.{List}
 use native.Mathlib.Omega.{arith}
 use lib.ListN.{length}
 use Rattle.classes.specs.Class.{closeBracket, comma}
 use Rattle.refusals.specs.declared.Refusal.{Refusal}
-use Rattle.refusals.specs.Refusals.{refusal, emptyList}
 use Rattle.tokens.specs.declared.Next.{Next}
 use Rattle.tokens.specs.declared.Next.the-variants.{Off, To}
 use Rattle.tokens.specs.Token.{placeOf, tokenAt, tokensFrom}
 use Rattle.tokens.specs.Inner.Bounds.{behind}
 use Rattle.rules.specs.Rule.{Join}
-use Rattle.grammar.specs.Grammar.{Got, bad, after, missing, closeSign, commaSign, aGroup, aList, headIn, orIn, primaryIn}
+use Rattle.grammar.specs.Grammar.{bad, after, missing, closeSign, commaSign, aGroup, aList, headIn, orIn, primaryIn}
 use Rattle.grammar.specs.Inner.Heads.{left}
 use Rattle.grammar.proofs.Laws.TokenListLaws.{first-place}
 use Rattle.grammar.proofs.Laws.BehindLaws.{test-on, test-off}
 use Rattle.nodes.specs.declared.Reach.{Reach}
 use Rattle.nodes.specs.declared.Reach.the-variants.{Done, Refused}
-use Rattle.nodes.specs.Inner.Parses.{Arrays, Long, Before, Read, Parsed, Joined, ListRoom, Listed}
+use Rattle.nodes.specs.Inner.Parses.{Arrays, Long, Before, Read, Parsed, Joined}
 use Rattle.nodes.proofs.Laws.ArrayLaws.{still}
 use Rattle.nodes.proofs.Laws.ParseLaws.{gave-done, gave-refused, unclosed, closed, Listing, list-empty, list-begin, item-refused, list-unclosed, list-turn, list-stop}
-use Rattle.endings.specs.Inner.Endings.{closedBy, groupEnd, firstBy, firstArgument, argumentBy, nextArgument}
+use Rattle.endings.specs.Inner.Endings.{closedBy, groupEnd, firstBy, firstArgument, argumentBy, nextArgument, ListRoom, ListEnd}
 use Rattle.endings.specs.declared.Argument.{Argument}
 use Rattle.endings.specs.declared.Argument.the-variants.{At, End}
 use Rattle.parser.proofs.Laws.OperandLaws.{Lengths}
@@ -107,7 +106,7 @@ module _ (s : List ℕ) (d at : ℕ) (j : Join) where
         let c = i .done e k q (h ∙ ap End is) in
         record { some = c .some; tags = omega (arith, c .room, i .long); args = omega (arith, c .room, i .long); few = omega (arith, i .long) }
 
-    pub list-end : (all : Reach) {r : Reach} {a₁ : Arrays} → v ≡ End all → Listed j n (a .tags) (a .args) (a₁ .tags) (a₁ .args) all r → a₁ .names ≡ a .names → Parsed (λ (f : ℕ). primaryIn f s d (tokensFrom s at)) (3 * left s at + 1) s at n m b a₁ r
+    pub list-end : (all : Reach) {r : Reach} {a₁ : Arrays} → v ≡ End all → ListEnd j n (a .tags) (a .args) (a₁ .tags) (a₁ .args) all r → a₁ .names ≡ a .names → Parsed (λ (f : ℕ). primaryIn f s d (tokensFrom s at)) (3 * left s at + 1) s at n m b a₁ r
     list-end (Done e k q) h w names = let u = w .done e k q refl in gave-done (u .0) (i .done e k q h .written (u .1) names)
     list-end (Refused x) h w names = gave-refused (w .refused x refl) (i .refused x h)
 

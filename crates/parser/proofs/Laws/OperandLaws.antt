@@ -13,13 +13,13 @@ use Rattle.tokens.specs.Token.{tokenAt, tokensFrom}
 use Rattle.tokens.specs.Inner.Bounds.{behind}
 use Rattle.rules.specs.Rule.{Join}
 use Rattle.image.specs.Encode.{joinKind}
-use Rattle.grammar.specs.Grammar.{Got, rest, missing, after}
+use Rattle.grammar.specs.Grammar.{Got, missing, after}
 use Rattle.grammar.specs.Inner.Heads.{left}
 use Rattle.grammar.proofs.Laws.TokenListLaws.{Signed}
 use Rattle.grammar.proofs.Laws.BehindLaws.{test-on, test-off}
 use Rattle.nodes.specs.declared.Reach.{Reach}
 use Rattle.nodes.specs.declared.Reach.the-variants.{Done, Refused}
-use Rattle.nodes.specs.Inner.Parses.{Arrays, Long, Before, Read, Parsed, JoinRoom, Joined, keepIf}
+use Rattle.nodes.specs.Inner.Parses.{Arrays, Before, Read, Parsed, JoinRoom, Joined, keepIf}
 use Rattle.nodes.proofs.Laws.ArrayLaws.{front, still, long-after}
 use Rattle.nodes.proofs.Laws.ParseLaws.{gave-done, gave-refused, rebase, Level, Sofar, first-refused, begin, stop, right-refused, turn}
 use Rattle.endings.specs.Inner.Endings.{operandBy, nextOperand}
@@ -109,10 +109,6 @@ module _ {class s : List ℕ} {G : ℕ → Got} {More : ℕ → Got → Got} {at
 
   pub operand-follows : (sign kind : ℕ) {r : Operand} → r ≡ nextOperand s e sign (a .tags) n₁ kind → {y k : ℕ} → r ≡ At y k → Follows s e sign (a .tags) n₁ kind y k
   operand-follows sign kind q = follows s e sign (a .tags) n₁ kind q (omega (arith, c .sofar .some))
-
-  -- the arrays are as long as before the loop
-  pub chain-lengths : Lengths a b
-  chain-lengths = let l = c .sofar .long in let p = c .before .long in lengths (l .tags) (l .args ∙ sym (p .args)) (l .names ∙ sym (p .names))
 
   module _ {sign kind y k : ℕ} (f : Follows s e sign (a .tags) n₁ kind y k) where
     pub right-before : Before class s y d k m₁ a

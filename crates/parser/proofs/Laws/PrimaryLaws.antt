@@ -8,7 +8,6 @@ use Rattle.slices.specs.Text.{part}
 use Rattle.slices.proofs.Laws.TextLaws.{part-length}
 use Rattle.refusals.specs.declared.Refusal.{Refusal}
 use Rattle.tokens.specs.Token.{tokensFrom}
-use Rattle.tokens.specs.declared.Next.the-variants.{To}
 use Rattle.rules.specs.Rule.{named}
 use Rattle.image.specs.Encode.{leafName}
 use Rattle.grammar.specs.Grammar.{headIn, orIn, primaryIn}

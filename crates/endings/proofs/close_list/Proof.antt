@@ -1,9 +1,9 @@
--- `nodes::push_list` meets its contract: by whether the arguments were read. Assumes nothing.
+-- `endings::close_list` meets its contract: by whether the arguments were read. Assumes nothing.
 use mathlib.Core.Path.{refl}
 use borrow.Author.Needs.{needs}
-use Rattle.nodes.proofs.Laws.WriteLaws.{list-refused, list-written}
-use Rattle.nodes.proofs.push_list.Statement.{statement}
-use Rattle.nodes.proofs.push_list.Tie as tie
+use Rattle.endings.proofs.Laws.ListLaws.{list-refused, list-written}
+use Rattle.endings.proofs.close_list.Statement.{statement}
+use Rattle.endings.proofs.close_list.Tie as tie
 
 push-combinator-requires : tie.Need-push-combinator-requires
 push-combinator-requires c κs =
@@ -20,8 +20,8 @@ returns-2 c =
     let all = pushed .before .before .before .before in
     list-written (all .all2 .given .1) refl (pushed .push-combinator .ensures .0) (pushed .push-combinator .ensures .1)
 
-pub push-list-spec : {M : Type 1} → statement M
-push-list-spec =
+pub close-list-spec : {M : Type 1} → statement M
+close-list-spec =
     tie.close
     (tie.spec
     (λ c. search needs)  -- enum-known-all
