@@ -3,7 +3,7 @@ ghost use Prim.Native.Nat.{_+_, _≤_, _<_};
 ghost use lib.ListN.{length};
 ghost use Rattle.store_args.specs.Arguments.{givenBy, split, storesIn};
 ghost use Rattle.store_args.specs.Inner.Filling.{arrays, OneOf, FilledBy, MadeOf};
-use little_endian::put2;
+use little_endian::write_u16;
 use slices::append;
 use slices::mark_at;
 use store_args::Filled;
@@ -76,8 +76,8 @@ pub fn table_of(args: &[u8], table: &mut [u8]) -> Made
     match fill(args, &mut modes, &mut lengths, &mut names) {
         Filled::Wrong { index, fault } => Made::Wrong { index, fault },
         Filled::Stores { count, used } => {
-            put2(table, COUNT_START, count as u64);
-            put2(table, TOTAL_START, used as u64);
+            write_u16(table, COUNT_START, count as u64);
+            write_u16(table, TOTAL_START, used as u64);
             let modes_end = append(table, MODES_START, &modes[..count]);
             let lengths_end = append(table, modes_end, &lengths[..count]);
             Made::Table(append(table, lengths_end, &names[..used]))

@@ -4,14 +4,14 @@ ghost use Prim.Native.Nat.{_≤_};
 ghost use lib.ListN.{length};
 ghost use Rattle.classes.specs.Class.{faults};
 ghost use Rattle.tokens.specs.Token.{tokensFrom};
-ghost use Rattle.grammar.specs.Grammar.{olderThanHead, readableHead, atLeastHead, callHead};
+ghost use Rattle.grammar.specs.Grammar.{olderThanStart, readableStart, atLeastStart, callStart};
 ghost use Rattle.grammar.specs.Inner.Heads.{left, Begins};
 use decimal::Parsed;
 use decimal::count::parse_count;
 use durations::duration::parse_duration;
 use grammar::Combinator;
 use grammar::Function;
-use grammar::Head;
+use grammar::PrimaryStart;
 use grammar::Test;
 use grammar::refuse;
 use signs::place_of;
@@ -20,9 +20,9 @@ use tokens::token_at;
 use tokens::word_of;
 
 // `older_than(`: a word is due, then `)`, and then the word must be a duration.
-fn older_than_head(text: &[u8], at: usize, class: &[u8; 256]) -> Head
+fn older_than_start(text: &[u8], at: usize, class: &[u8; 256]) -> PrimaryStart
     requires { ⌜ faults (now class) ≡ 0 ⌝ }
-    ensures { λ r. ⌜ Begins (now (text .entry)) at at (left (now (text .entry)) at) r (olderThanHead (now (text .entry)) (tokensFrom (now (text .entry)) at)) ⌝ }
+    ensures { λ r. ⌜ Begins (now (text .entry)) at at (left (now (text .entry)) at) r (olderThanStart (now (text .entry)) (tokensFrom (now (text .entry)) at)) ⌝ }
 {
     let t = token_at(text, at, class);
     let Token::Word {
@@ -41,10 +41,10 @@ fn older_than_head(text: &[u8], at: usize, class: &[u8; 256]) -> Head
         next: after,
     } = bracket
     else {
-        return refuse(refusals::OPEN_BRACKET, place_of(bracket));
+        return refuse(refusals::BRACKET_EXPECTED, place_of(bracket));
     };
     match parse_duration(word_of(text, start, end), class) {
-        Parsed::Value(milliseconds) => Head::Leaf {
+        Parsed::Value(milliseconds) => PrimaryStart::Leaf {
             test: Test::OlderThan(milliseconds),
             next: after,
         },
@@ -53,9 +53,9 @@ fn older_than_head(text: &[u8], at: usize, class: &[u8; 256]) -> Head
 }
 
 // `readable(`: a word is due, which must be a count, then `)`.
-fn readable_head(text: &[u8], at: usize, class: &[u8; 256]) -> Head
+fn readable_start(text: &[u8], at: usize, class: &[u8; 256]) -> PrimaryStart
     requires { ⌜ faults (now class) ≡ 0 ⌝ }
-    ensures { λ r. ⌜ Begins (now (text .entry)) at at (left (now (text .entry)) at) r (readableHead (now (text .entry)) (tokensFrom (now (text .entry)) at)) ⌝ }
+    ensures { λ r. ⌜ Begins (now (text .entry)) at at (left (now (text .entry)) at) r (readableStart (now (text .entry)) (tokensFrom (now (text .entry)) at)) ⌝ }
 {
     let t = token_at(text, at, class);
     let Token::Word {
@@ -77,18 +77,18 @@ fn readable_head(text: &[u8], at: usize, class: &[u8; 256]) -> Head
         next: after,
     } = shut
     else {
-        return refuse(refusals::OPEN_BRACKET, place_of(shut));
+        return refuse(refusals::BRACKET_EXPECTED, place_of(shut));
     };
-    Head::Leaf {
+    PrimaryStart::Leaf {
         test: Test::Readable(count),
         next: after,
     }
 }
 
 // `at_least(`: a word is due, which must be a count, then a comma; its list follows.
-fn at_least_head(text: &[u8], place: usize, at: usize, class: &[u8; 256]) -> Head
+fn at_least_start(text: &[u8], place: usize, at: usize, class: &[u8; 256]) -> PrimaryStart
     requires { ⌜ faults (now class) ≡ 0 ⌝ }
-    ensures { λ r. ⌜ Begins (now (text .entry)) at at (left (now (text .entry)) at) r (atLeastHead (now (text .entry)) place (tokensFrom (now (text .entry)) at)) ⌝ }
+    ensures { λ r. ⌜ Begins (now (text .entry)) at at (left (now (text .entry)) at) r (atLeastStart (now (text .entry)) place (tokensFrom (now (text .entry)) at)) ⌝ }
 {
     let t = token_at(text, at, class);
     let Token::Word {
@@ -112,7 +112,7 @@ fn at_least_head(text: &[u8], place: usize, at: usize, class: &[u8; 256]) -> Hea
     else {
         return refuse(refusals::MISSING_ARGUMENT, place_of(comma));
     };
-    Head::List {
+    PrimaryStart::List {
         combinator: Combinator::AtLeast(least),
         place,
         next: after,
@@ -120,24 +120,30 @@ fn at_least_head(text: &[u8], place: usize, at: usize, class: &[u8; 256]) -> Hea
 }
 
 // A function's call; its word is at `place`, and the position after its bracket is `at`.
-pub fn call_head(text: &[u8], place: usize, f: Function, at: usize, class: &[u8; 256]) -> Head
+pub fn call_start(
+    text: &[u8],
+    place: usize,
+    f: Function,
+    at: usize,
+    class: &[u8; 256],
+) -> PrimaryStart
     requires { ⌜ (faults (now class) ≡ 0) × (at ≤ length (now text)) ⌝ }
-    ensures { λ r. ⌜ Begins (now (text .entry)) at at (left (now (text .entry)) at) r (callHead (now (text .entry)) place f (tokensFrom (now (text .entry)) at)) ⌝ }
+    ensures { λ r. ⌜ Begins (now (text .entry)) at at (left (now (text .entry)) at) r (callStart (now (text .entry)) place f (tokensFrom (now (text .entry)) at)) ⌝ }
 {
     match f {
-        Function::OlderThan => older_than_head(text, at, class),
-        Function::Readable => readable_head(text, at, class),
-        Function::Any => Head::List {
+        Function::OlderThan => older_than_start(text, at, class),
+        Function::Readable => readable_start(text, at, class),
+        Function::Any => PrimaryStart::List {
             combinator: Combinator::Any,
             place,
             next: at,
         },
-        Function::All => Head::List {
+        Function::All => PrimaryStart::List {
             combinator: Combinator::All,
             place,
             next: at,
         },
-        Function::AtLeast => at_least_head(text, place, at, class),
+        Function::AtLeast => at_least_start(text, place, at, class),
         Function::Unknown => refuse(refusals::UNKNOWN_FUNCTION, place),
     }
 }

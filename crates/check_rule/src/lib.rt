@@ -5,8 +5,8 @@ ghost use lib.ListN.{length};
 ghost use Rattle.rules.specs.Rule.{Rule};
 ghost use Rattle.rules.specs.Rule.{size as sizeOf};
 ghost use Rattle.image.specs.Decode.{cellAt};
-ghost use Rattle.image.specs.Inner.Standing.{Stands};
-ghost use Rattle.image.specs.Inner.Subtree.{Inside};
+ghost use Rattle.image.specs.Inner.Standing.{EncodedAt};
+ghost use Rattle.image.specs.Inner.Subtree.{ValidSubtree};
 ghost use Rattle.store_table.specs.Stores.{countIn};
 ghost use Rattle.store_table.specs.Inner.Index.{Indexed};
 ghost use Rattle.verdict.specs.Check.{checkRule};
@@ -30,8 +30,8 @@ fn check_names(
     slots: &[u8; 512],
     grades: &mut [u8],
 ) -> Verdict
-    requires { ⌜ Inside (now image) n 0 n × ((n ≤ length (now grades)) × (WithStores (now stores) × Indexed (now stores) (countIn (now stores)) (now starts) (now slots))) ⌝ }
-    ensures { λ r. ⌜ ((ρ : Rule) → sizeOf ρ ≡ n → Stands ρ (cellAt (now (image .entry)) n) 0 → r ≡ checkRule ρ (now (stores .entry))) ⌝ }
+    requires { ⌜ ValidSubtree (now image) n 0 n × ((n ≤ length (now grades)) × (WithStores (now stores) × Indexed (now stores) (countIn (now stores)) (now starts) (now slots))) ⌝ }
+    ensures { λ r. ⌜ ((ρ : Rule) → sizeOf ρ ≡ n → EncodedAt ρ (cellAt (now (image .entry)) n) 0 → r ≡ checkRule ρ (now (stores .entry))) ⌝ }
 {
     if let Unknown::At(i) = grade_leaves(image, n, stores, starts, slots, grades) {
         return refuse(refusals::UNKNOWN_STORE, i);
@@ -47,8 +47,8 @@ fn check_names(
 
 // Checks the rule of an image of n nodes, with room for a grade of each: 17, 18, then 20 to 22 where there are stores.
 fn check_in(image: &[u8], n: usize, stores: &[u8], grades: &mut [u8]) -> Verdict
-    requires { ⌜ Inside (now image) n 0 n × (n ≤ length (now grades)) ⌝ }
-    ensures { λ r. ⌜ ((ρ : Rule) → sizeOf ρ ≡ n → Stands ρ (cellAt (now (image .entry)) n) 0 → r ≡ checkRule ρ (now (stores .entry))) ⌝ }
+    requires { ⌜ ValidSubtree (now image) n 0 n × (n ≤ length (now grades)) ⌝ }
+    ensures { λ r. ⌜ ((ρ : Rule) → sizeOf ρ ≡ n → EncodedAt ρ (cellAt (now (image .entry)) n) 0 → r ≡ checkRule ρ (now (stores .entry))) ⌝ }
 {
     if !is_table(stores) {
         return refuse(refusals::BAD_STORE_TABLE, 0);
@@ -66,8 +66,8 @@ fn check_in(image: &[u8], n: usize, stores: &[u8], grades: &mut [u8]) -> Verdict
 
 // Of at most 64 nodes.
 fn check_64(image: &[u8], n: usize, stores: &[u8]) -> Verdict
-    requires { ⌜ Inside (now image) n 0 n × (n ≤ 64) ⌝ }
-    ensures { λ r. ⌜ ((ρ : Rule) → sizeOf ρ ≡ n → Stands ρ (cellAt (now (image .entry)) n) 0 → r ≡ checkRule ρ (now (stores .entry))) ⌝ }
+    requires { ⌜ ValidSubtree (now image) n 0 n × (n ≤ 64) ⌝ }
+    ensures { λ r. ⌜ ((ρ : Rule) → sizeOf ρ ≡ n → EncodedAt ρ (cellAt (now (image .entry)) n) 0 → r ≡ checkRule ρ (now (stores .entry))) ⌝ }
 {
     let mut grades = [0u8; 64];
     check_in(image, n, stores, &mut grades)
@@ -75,8 +75,8 @@ fn check_64(image: &[u8], n: usize, stores: &[u8]) -> Verdict
 
 // Of at most 2,048.
 fn check_2048(image: &[u8], n: usize, stores: &[u8]) -> Verdict
-    requires { ⌜ Inside (now image) n 0 n × (n ≤ 2048) ⌝ }
-    ensures { λ r. ⌜ ((ρ : Rule) → sizeOf ρ ≡ n → Stands ρ (cellAt (now (image .entry)) n) 0 → r ≡ checkRule ρ (now (stores .entry))) ⌝ }
+    requires { ⌜ ValidSubtree (now image) n 0 n × (n ≤ 2048) ⌝ }
+    ensures { λ r. ⌜ ((ρ : Rule) → sizeOf ρ ≡ n → EncodedAt ρ (cellAt (now (image .entry)) n) 0 → r ≡ checkRule ρ (now (stores .entry))) ⌝ }
 {
     let mut grades = [0u8; 2048];
     check_in(image, n, stores, &mut grades)
@@ -84,8 +84,8 @@ fn check_2048(image: &[u8], n: usize, stores: &[u8]) -> Verdict
 
 // Checks the rule of an image of n nodes. The array of grades is chosen by their number.
 pub fn check_rule(image: &[u8], n: usize, stores: &[u8]) -> Verdict
-    requires { ⌜ Inside (now image) n 0 n × (n ≤ 2048) ⌝ }
-    ensures { λ r. ⌜ ((ρ : Rule) → sizeOf ρ ≡ n → Stands ρ (cellAt (now (image .entry)) n) 0 → r ≡ checkRule ρ (now (stores .entry))) ⌝ }
+    requires { ⌜ ValidSubtree (now image) n 0 n × (n ≤ 2048) ⌝ }
+    ensures { λ r. ⌜ ((ρ : Rule) → sizeOf ρ ≡ n → EncodedAt ρ (cellAt (now (image .entry)) n) 0 → r ≡ checkRule ρ (now (stores .entry))) ⌝ }
 {
     if n <= 64 {
         return check_64(image, n, stores);

@@ -3,7 +3,7 @@ ghost use mathlib.Core.Path.{_≡_};
 ghost use mathlib.Core.List.{List};
 ghost use Prim.Native.Nat.{_<_, ℕ};
 ghost use lib.ListN.{length, set};
-ghost use Rattle.store_table.specs.Stores.{Laid, countIn, entriesIn, allNames, twinOf, readyCount};
+ghost use Rattle.store_table.specs.Stores.{TableInBounds, countIn, entriesIn, allNames, twinOf, readyCount};
 ghost use Rattle.store_table.specs.Inner.Index.{Indexed, Blank, Marked};
 ghost use Rattle.store_table.specs.Names.{has};
 use lookup::find;
@@ -32,7 +32,7 @@ pub fn mark_confirmed(
     slots: &[u8; 512],
     marks: &mut [u8; 64],
 )
-    requires { ⌜ Laid (now stores) × (Laid (now list) × ((twinOf (entriesIn (now stores)) ≡ Twin.No) × (Indexed (now stores) (countIn (now stores)) (now starts) (now slots) × Blank (now marks)))) ⌝ }
+    requires { ⌜ TableInBounds (now stores) × (TableInBounds (now list) × ((twinOf (entriesIn (now stores)) ≡ Twin.No) × (Indexed (now stores) (countIn (now stores)) (now starts) (now slots) × Blank (now marks)))) ⌝ }
     ensures { λ _. ⌜ Marked (entriesIn (now (stores .entry))) (allNames (entriesIn (now (list .entry)))) (now (marks .exit)) ⌝ }
 {
     let count = count_of(list);
@@ -50,7 +50,7 @@ pub fn mark_confirmed(
 
 // How many readable stores are marked.
 pub fn ready_count(stores: &[u8], marks: &[u8; 64]) -> u64
-    requires { ⌜ Laid (now stores) ⌝ }
+    requires { ⌜ TableInBounds (now stores) ⌝ }
     ensures { λ r. ⌜ ((names : List (List ℕ)) → Marked (entriesIn (now (stores .entry))) names (now (marks .entry)) → r ≡ readyCount (entriesIn (now (stores .entry))) names) ⌝ }
 {
     let count = count_of(stores);
@@ -76,7 +76,7 @@ pub fn is_confirmed(
     slots: &[u8; 512],
     marks: &[u8; 64],
 ) -> bool
-    requires { ⌜ Laid (now stores) × (Laid (now list) × (Indexed (now stores) (countIn (now stores)) (now starts) (now slots) × Marked (entriesIn (now stores)) (allNames (entriesIn (now list))) (now marks))) ⌝ }
+    requires { ⌜ TableInBounds (now stores) × (TableInBounds (now list) × (Indexed (now stores) (countIn (now stores)) (now starts) (now slots) × Marked (entriesIn (now stores)) (allNames (entriesIn (now list))) (now marks))) ⌝ }
     ensures { λ r. ⌜ r ≡ has (now (name .entry)) (allNames (entriesIn (now (list .entry)))) ⌝ }
 {
     match find(name, stores, starts, slots) {

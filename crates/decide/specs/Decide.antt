@@ -7,14 +7,14 @@ use Rattle.refusals.specs.Refusals.{refusal, badImage}
 use Rattle.rules.specs.Rule.{Rule}
 use Rattle.image.specs.Decode.{decode}
 use Rattle.store_table.specs.Stores.{entriesIn, allNames}
-use Rattle.evaluate.specs.Evict.{worldOf, evict}
+use Rattle.evaluate.specs.Evict.{envOf, evict}
 use Rattle.decide.specs.Tests.{unlessDue, tableTest, twinTest, listTest}
 use Rattle.decide.specs.declared.Decision.{Decision}
 use Rattle.decide.specs.declared.Decision.the-variants.{Evict, Keep, Refused}
 
-abbrev pub saying : Bool → Decision
-saying true = Evict
-saying false = Keep
+abbrev pub decisionOf : Bool → Decision
+decisionOf true = Evict
+decisionOf false = Keep
 
 -- the names that a list holds
 abbrev pub listNames : List ℕ → List (List ℕ)
@@ -25,7 +25,7 @@ abbrev pub decideRule : Option Rule → List ℕ → ℕ → List ℕ → Decisi
 decideRule none stores age list = Refused (refusal badImage 0)
 decideRule (some r) stores age list =
     unlessDue Refused (tableTest stores ∷ twinTest stores ∷ listTest list ∷ [])
-    (saying (evict r (worldOf (entriesIn stores) age (listNames list))))
+    (decisionOf (evict r (envOf (entriesIn stores) age (listNames list))))
 
 unfoldable pub decideOf : List ℕ → List ℕ → ℕ → List ℕ → Decision
 decideOf image stores age list = decideRule (decode image) stores age list

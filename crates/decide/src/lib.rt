@@ -4,17 +4,17 @@ ghost use Prim.Native.Nat.{_≤_};
 ghost use Rattle.rules.specs.Rule.{Rule};
 ghost use Rattle.rules.specs.Rule.{size as sizeOf};
 ghost use Rattle.image.specs.Decode.{cellAt};
-ghost use Rattle.image.specs.Inner.Standing.{Stands};
-ghost use Rattle.image.specs.Inner.Subtree.{Inside};
+ghost use Rattle.image.specs.Inner.Standing.{EncodedAt};
+ghost use Rattle.image.specs.Inner.Subtree.{ValidSubtree};
 ghost use Rattle.evaluate.specs.Evict.{evict};
-ghost use Rattle.leaf_answers.specs.Inner.Known.{Known, worldIn};
+ghost use Rattle.leaf_answers.specs.Inner.Known.{Known, envIn};
 ghost use Rattle.decide.specs.Decide.{decideOf};
 use confirmed::mark_confirmed;
 use confirmed::ready_count;
 use evaluate::evaluate;
 use image::node_count;
 use image_test::is_image;
-use leaf_answers::View;
+use leaf_answers::EnvNumbers;
 use leaf_answers::say_leaves;
 use refusals::Refusal;
 use store_index::twin_of;
@@ -41,13 +41,13 @@ fn rule_says_64(
     n: usize,
     stores: &[u8],
     list: &[u8],
-    view: View,
+    view: EnvNumbers,
     starts: &[u16; 64],
     slots: &[u8; 512],
     marks: &[u8; 64],
 ) -> bool
-    requires { ⌜ Inside (now image) n 0 n × ((n ≤ 64) × Known (now stores) (now list) (now starts) (now slots) (now marks)) ⌝ }
-    ensures { λ r. ⌜ ((ρ : Rule) → sizeOf ρ ≡ n → Stands ρ (cellAt (now (image .entry)) n) 0 → r ≡ evict ρ (worldIn (now (list .entry)) view)) ⌝ }
+    requires { ⌜ ValidSubtree (now image) n 0 n × ((n ≤ 64) × Known (now stores) (now list) (now starts) (now slots) (now marks)) ⌝ }
+    ensures { λ r. ⌜ ((ρ : Rule) → sizeOf ρ ≡ n → EncodedAt ρ (cellAt (now (image .entry)) n) 0 → r ≡ evict ρ (envIn (now (list .entry)) view)) ⌝ }
 {
     let mut says = [0u8; 64];
     say_leaves(
@@ -70,13 +70,13 @@ fn rule_says_2048(
     n: usize,
     stores: &[u8],
     list: &[u8],
-    view: View,
+    view: EnvNumbers,
     starts: &[u16; 64],
     slots: &[u8; 512],
     marks: &[u8; 64],
 ) -> bool
-    requires { ⌜ Inside (now image) n 0 n × ((n ≤ 2048) × Known (now stores) (now list) (now starts) (now slots) (now marks)) ⌝ }
-    ensures { λ r. ⌜ ((ρ : Rule) → sizeOf ρ ≡ n → Stands ρ (cellAt (now (image .entry)) n) 0 → r ≡ evict ρ (worldIn (now (list .entry)) view)) ⌝ }
+    requires { ⌜ ValidSubtree (now image) n 0 n × ((n ≤ 2048) × Known (now stores) (now list) (now starts) (now slots) (now marks)) ⌝ }
+    ensures { λ r. ⌜ ((ρ : Rule) → sizeOf ρ ≡ n → EncodedAt ρ (cellAt (now (image .entry)) n) 0 → r ≡ evict ρ (envIn (now (list .entry)) view)) ⌝ }
 {
     let mut says = [0u8; 2048];
     say_leaves(
@@ -99,13 +99,13 @@ fn rule_says(
     n: usize,
     stores: &[u8],
     list: &[u8],
-    view: View,
+    view: EnvNumbers,
     starts: &[u16; 64],
     slots: &[u8; 512],
     marks: &[u8; 64],
 ) -> bool
-    requires { ⌜ Inside (now image) n 0 n × ((n ≤ 2048) × Known (now stores) (now list) (now starts) (now slots) (now marks)) ⌝ }
-    ensures { λ r. ⌜ ((ρ : Rule) → sizeOf ρ ≡ n → Stands ρ (cellAt (now (image .entry)) n) 0 → r ≡ evict ρ (worldIn (now (list .entry)) view)) ⌝ }
+    requires { ⌜ ValidSubtree (now image) n 0 n × ((n ≤ 2048) × Known (now stores) (now list) (now starts) (now slots) (now marks)) ⌝ }
+    ensures { λ r. ⌜ ((ρ : Rule) → sizeOf ρ ≡ n → EncodedAt ρ (cellAt (now (image .entry)) n) 0 → r ≡ evict ρ (envIn (now (list .entry)) view)) ⌝ }
 {
     if n <= 64 {
         return rule_says_64(image, n, stores, list, view, starts, slots, marks);
@@ -134,7 +134,7 @@ pub fn decide(image: &[u8], stores: &[u8], age: u64, list: &[u8]) -> Decision
     let mut marks = [0u8; 64];
     mark_confirmed(stores, list, &starts, &slots, &mut marks);
     let n = node_count(image);
-    let view = View {
+    let view = EnvNumbers {
         age,
         ready: ready_count(stores, &marks),
     };

@@ -2,7 +2,7 @@
 ghost use mathlib.Core.Path.{_≡_};
 ghost use Prim.Native.Nat.{_≤_, _+_};
 ghost use lib.ListN.{length};
-ghost use Rattle.slices.specs.Written.{Put};
+ghost use Rattle.slices.specs.Written.{WrittenAt};
 ghost use Rattle.decimal.specs.Digits.{digitsOf};
 
 // How many digits a number has.
@@ -21,7 +21,7 @@ pub fn digit_count(n: u64) -> usize
 // Puts a number's digits so that they end at a position, and answers where they begin.
 pub fn put_digits(text: &mut [u8], end: usize, n: u64) -> usize
     requires { ⌜ (length (digitsOf n) ≤ end) × (end ≤ length (now text)) ⌝ }
-    ensures { λ r. ⌜ Put (now (text .entry)) (now (text .exit)) r end (digitsOf n) ⌝ }
+    ensures { λ r. ⌜ WrittenAt (now (text .entry)) (now (text .exit)) r end (digitsOf n) ⌝ }
 {
     let mut at = end;
     let mut left = n;
@@ -38,7 +38,7 @@ pub fn put_digits(text: &mut [u8], end: usize, n: u64) -> usize
 // Puts a number's digits from a position on, and answers where they end.
 pub fn append_digits(text: &mut [u8], at: usize, n: u64) -> usize
     requires { ⌜ at + 20 ≤ length (now text) ⌝ }
-    ensures { λ r. ⌜ Put (now (text .entry)) (now (text .exit)) at r (digitsOf n) ⌝ }
+    ensures { λ r. ⌜ WrittenAt (now (text .entry)) (now (text .exit)) at r (digitsOf n) ⌝ }
 {
     let end = at + digit_count(n);
     put_digits(text, end, n);

@@ -1,9 +1,9 @@
 // What a refusal is about: a place in the text, a store, the age at which the rule evicts.
 ghost use Prim.Native.Nat.{min, _+_, _≤_};
 ghost use lib.ListN.{length};
-ghost use Rattle.slices.specs.Written.{Put};
+ghost use Rattle.slices.specs.Written.{WrittenAt};
 ghost use Rattle.grammar.specs.Reading.{readOf};
-ghost use Rattle.store_table.specs.Stores.{Laid, entriesIn, writeOnlyNames};
+ghost use Rattle.store_table.specs.Stores.{TableInBounds, entriesIn, writeOnlyNames};
 ghost use Rattle.lines.specs.Lines.{textEnd, markedLine, shownAll};
 ghost use Rattle.details.specs.Report.{nodeName, ageLine, confirmedLine, confirmedLines, detail};
 ghost use Rattle.details.specs.Inner.Room.{Room};
@@ -17,7 +17,7 @@ use read::IMAGE_BYTES;
 use read::Reading;
 use refusals::Refusal;
 use slices::append;
-use slices::behind_last;
+use slices::end_of_last;
 use store_table::WRITE_ONLY;
 use store_table::count_of;
 use store_table::length_at;
@@ -28,9 +28,9 @@ use verdict::OLDEST;
 // The line of a text in which a place stands, marked there, or behind the text's last visible byte.
 fn append_place(page: &mut [u8], at: usize, text: &[u8], place: usize) -> usize
     requires { ⌜ (length (now text) ≤ 2048) × (at + 4099 ≤ length (now page)) ⌝ }
-    ensures { λ r. ⌜ Put (now (page .entry)) (now (page .exit)) at r (markedLine (now (text .entry)) (min place (textEnd (now (text .entry))))) ⌝ }
+    ensures { λ r. ⌜ WrittenAt (now (page .entry)) (now (page .exit)) at r (markedLine (now (text .entry)) (min place (textEnd (now (text .entry))))) ⌝ }
 {
-    let end = behind_last(text, text.len(), 33, 255);
+    let end = end_of_last(text, text.len(), 33, 255);
     if place < end {
         return append_marked(page, at, text, place);
     }
@@ -40,7 +40,7 @@ fn append_place(page: &mut [u8], at: usize, text: &[u8], place: usize) -> usize
 // The name of a node of the rule that a text reads as, by its index.
 fn append_node(page: &mut [u8], at: usize, text: &[u8], index: usize) -> usize
     requires { ⌜ at + 26_628 ≤ length (now page) ⌝ }
-    ensures { λ r. ⌜ Put (now (page .entry)) (now (page .exit)) at r (shownAll (nodeName (readOf (now (text .entry))) index)) ⌝ }
+    ensures { λ r. ⌜ WrittenAt (now (page .entry)) (now (page .exit)) at r (shownAll (nodeName (readOf (now (text .entry))) index)) ⌝ }
 {
     let mut image = [0u8; IMAGE_BYTES];
     let Reading::Read(size) = read::read(text, &mut image) else {
@@ -63,7 +63,7 @@ fn append_node(page: &mut [u8], at: usize, text: &[u8], index: usize) -> usize
 // The age at which 21 and 22 are tested.
 fn append_age(page: &mut [u8], at: usize) -> usize
     requires { ⌜ at + 64 ≤ length (now page) ⌝ }
-    ensures { λ r. ⌜ Put (now (page .entry)) (now (page .exit)) at r ageLine ⌝ }
+    ensures { λ r. ⌜ WrittenAt (now (page .entry)) (now (page .exit)) at r ageLine ⌝ }
 {
     let word_end = append(page, at, b"age: ");
     let age_end = append_digits(page, word_end, OLDEST);
@@ -73,7 +73,7 @@ fn append_age(page: &mut [u8], at: usize) -> usize
 // A line with a name that is confirmed.
 fn append_confirmed(page: &mut [u8], at: usize, name: &[u8]) -> usize
     requires { ⌜ at + length (now name) + 12 ≤ length (now page) ⌝ }
-    ensures { λ r. ⌜ Put (now (page .entry)) (now (page .exit)) at r (confirmedLine (now (name .entry))) ⌝ }
+    ensures { λ r. ⌜ WrittenAt (now (page .entry)) (now (page .exit)) at r (confirmedLine (now (name .entry))) ⌝ }
 {
     let word_end = append(page, at, b"confirmed: ");
     let name_end = append_shown(page, word_end, name);
@@ -82,8 +82,8 @@ fn append_confirmed(page: &mut [u8], at: usize, name: &[u8]) -> usize
 
 // A line for each write-only store.
 fn append_write_only(page: &mut [u8], at: usize, stores: &[u8]) -> usize
-    requires { ⌜ Laid (now stores) × (at + length (now stores) + 768 ≤ length (now page)) ⌝ }
-    ensures { λ r. ⌜ Put (now (page .entry)) (now (page .exit)) at r (confirmedLines (writeOnlyNames (entriesIn (now (stores .entry))))) ⌝ }
+    requires { ⌜ TableInBounds (now stores) × (at + length (now stores) + 768 ≤ length (now page)) ⌝ }
+    ensures { λ r. ⌜ WrittenAt (now (page .entry)) (now (page .exit)) at r (confirmedLines (writeOnlyNames (entriesIn (now (stores .entry))))) ⌝ }
 {
     let count = count_of(stores);
     let mut k = 0;
@@ -103,7 +103,7 @@ fn append_write_only(page: &mut [u8], at: usize, stores: &[u8]) -> usize
 // What a refusal of a text for these stores is about.
 pub fn append_detail(page: &mut [u8], at: usize, text: &[u8], stores: &[u8], f: Refusal) -> usize
     requires { ⌜ Room (now page) at (now text) (now stores) f ⌝ }
-    ensures { λ r. ⌜ Put (now (page .entry)) (now (page .exit)) at r (detail (now (text .entry)) (entriesIn (now (stores .entry))) f) ⌝ }
+    ensures { λ r. ⌜ WrittenAt (now (page .entry)) (now (page .exit)) at r (detail (now (text .entry)) (entriesIn (now (stores .entry))) f) ⌝ }
 {
     let number = f.number;
     let place = f.place;

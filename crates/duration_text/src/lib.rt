@@ -2,11 +2,11 @@
 ghost use mathlib.Core.Path.{_≡_};
 ghost use Prim.Native.Nat.{_≤_};
 ghost use lib.ListN.{length};
-ghost use Rattle.slices.specs.Written.{Put};
+ghost use Rattle.slices.specs.Written.{WrittenAt};
 ghost use Rattle.duration_text.specs.DurationText.{partText, durationText};
 use decimal::digits::digit_count;
 use decimal::digits::put_digits;
-use slices::put;
+use slices::prepend;
 
 // How many bytes a part prints as: none where it is zero.
 fn part_size(k: u64, unit: &[u8]) -> usize
@@ -37,22 +37,22 @@ pub fn duration_size(ms: u64) -> usize
 // Puts a part's text so that it ends at a position, and answers where it begins; nothing where it is zero.
 fn put_part(text: &mut [u8], end: usize, k: u64, unit: &[u8]) -> usize
     requires { ⌜ (length (partText k (now unit)) ≤ end) × (end ≤ length (now text)) ⌝ }
-    ensures { λ r. ⌜ Put (now (text .entry)) (now (text .exit)) r end (partText k (now (unit .entry))) ⌝ }
+    ensures { λ r. ⌜ WrittenAt (now (text .entry)) (now (text .exit)) r end (partText k (now (unit .entry))) ⌝ }
 {
     if k == 0 {
         return end;
     }
-    let at = put(text, end, unit);
+    let at = prepend(text, end, unit);
     put_digits(text, at, k)
 }
 
 // Puts a duration's text so that it ends at a position, and answers where it begins: its last part first.
 pub fn format_duration(text: &mut [u8], end: usize, ms: u64) -> usize
     requires { ⌜ (length (durationText ms) ≤ end) × (end ≤ length (now text)) ⌝ }
-    ensures { λ r. ⌜ Put (now (text .entry)) (now (text .exit)) r end (durationText ms) ⌝ }
+    ensures { λ r. ⌜ WrittenAt (now (text .entry)) (now (text .exit)) r end (durationText ms) ⌝ }
 {
     if ms == 0 {
-        return put(text, end, b"0s");
+        return prepend(text, end, b"0s");
     }
     let millis = put_part(text, end, ms % 1_000, b"ms");
     let seconds = put_part(text, millis, ms / 1_000 % 60, b"s");

@@ -8,7 +8,7 @@ ghost use Rattle.grammar.specs.Inner.Heads.{joinOf};
 ghost use Rattle.nodes.specs.Inner.Parses.{keepIf};
 ghost use Rattle.endings.specs.Inner.Endings.{nextOperand, groupEnd, firstArgument, nextArgument, ListRoom, ListEnd};
 use grammar::Combinator;
-use nodes::Reach;
+use nodes::ParseEnd;
 use nodes::push_combinator;
 use nodes::refuse;
 use signs::bracket_at;
@@ -18,7 +18,7 @@ use tokens::Next;
 use tokens::token_at;
 
 // How many of n nodes stay where a chain goes on: the last one goes where it is of the chain's kind.
-fn kept(tags: &[u32], n: usize, kind: u32) -> usize
+fn nodes_before_chain(tags: &[u32], n: usize, kind: u32) -> usize
     requires { ⌜ (0 < n) × (n ≤ length (now tags)) ⌝ }
     ensures { λ r. ⌜ (r ≡ keepIf (eqb (getD (now (tags .entry)) (n - 1) 0 % 256) kind) n) × ((r ≤ n) × (n ≤ r + 1)) ⌝ }
 {
@@ -49,25 +49,28 @@ pub fn next_operand(
     };
     Operand::At {
         next,
-        n: kept(tags, n, kind),
+        n: nodes_before_chain(tags, n, kind),
     }
 }
 
 // A group whose inner rule ends at a position: its closing bracket is expected there.
-pub fn close_group(text: &[u8], at: usize, n: usize, m: usize, class: &[u8; 256]) -> Reach
+pub fn close_group(text: &[u8], at: usize, n: usize, m: usize, class: &[u8; 256]) -> ParseEnd
     requires { ⌜ faults (now class) ≡ 0 ⌝ }
     ensures { λ r. ⌜ r ≡ groupEnd (now (text .entry)) at n m ⌝ }
 {
     let Next::To(next) = bracket_at(text, at, classes::CLOSE, class) else {
-        return refuse(refusals::OPEN_BRACKET, place_of(token_at(text, at, class)));
+        return refuse(
+            refusals::BRACKET_EXPECTED,
+            place_of(token_at(text, at, class)),
+        );
     };
-    Reach::Done { next, n, m }
+    ParseEnd::Done { next, n, m }
 }
 
 // Where a list's next argument is read, after how many nodes and name bytes; or the list's end: all were read, or a refusal.
 pub enum Argument {
     At { next: usize, n: usize, m: usize },
-    End(Reach),
+    End(ParseEnd),
 }
 
 // The first argument of a list whose function's word is at `place`; an empty list is refused.
@@ -89,11 +92,11 @@ pub fn first_argument(
 }
 
 // What follows an argument: another one after a comma, or the list's end.
-pub fn next_argument(text: &[u8], last: Reach, class: &[u8; 256]) -> Argument
+pub fn next_argument(text: &[u8], last: ParseEnd, class: &[u8; 256]) -> Argument
     requires { ⌜ faults (now class) ≡ 0 ⌝ }
     ensures { λ r. ⌜ r ≡ nextArgument (now (text .entry)) last ⌝ }
 {
-    let Reach::Done { next, n, m } = last else {
+    let ParseEnd::Done { next, n, m } = last else {
         return Argument::End(last);
     };
     if let Next::To(after) = bracket_at(text, next, classes::COMMA, class) {
@@ -108,14 +111,14 @@ pub fn close_list(
     args: &mut [u64],
     first: usize,
     combinator: Combinator,
-    all: Reach,
-) -> Reach
+    all: ParseEnd,
+) -> ParseEnd
     requires { ⌜ ListRoom first (now tags) (now args) all ⌝ }
     ensures { λ r. ⌜ ListEnd (joinOf combinator) first (now (tags .entry)) (now (args .entry)) (now (tags .exit)) (now (args .exit)) all r ⌝ }
 {
     match all {
-        Reach::Refused(f) => Reach::Refused(f),
-        Reach::Done { next, n, m } => Reach::Done {
+        ParseEnd::Refused(f) => ParseEnd::Refused(f),
+        ParseEnd::Done { next, n, m } => ParseEnd::Done {
             next,
             n: push_combinator(tags, args, first, n, combinator),
             m,

@@ -7,15 +7,15 @@ ghost use lib.ListN.{length};
 ghost use Rattle.rules.specs.Rule.{Join, Rule};
 ghost use Rattle.rules.specs.Rule.{size as sizeOf};
 ghost use Rattle.image.specs.Decode.{aJoin, meaning, cellAt};
-ghost use Rattle.image.specs.Inner.Standing.{Stands};
+ghost use Rattle.image.specs.Inner.Standing.{EncodedAt};
 ghost use Rattle.image.specs.Inner.Subtree.{Row};
-ghost use Rattle.evaluate.specs.Evict.{joinSays, yeses};
+ghost use Rattle.evaluate.specs.Evict.{joinSays, countTrue};
 ghost use Rattle.evaluate.specs.Inner.By.{evictBy, saysAt};
 use image::node_at;
 
 // What a combinator says of children of whom `yes` of `total` say evict: each kind by its own line.
 fn join_says(kind: u32, arg: u64, yes: u64, total: u64) -> bool
-    ensures { λ r. ⌜ ((s : List ℕ) (n : ℕ) (j : Join) (bs : List Bool) → meaning s n kind arg ≡ aJoin j → yeses bs ≡ yes → length bs ≡ total → r ≡ joinSays j bs) ⌝ }
+    ensures { λ r. ⌜ ((s : List ℕ) (n : ℕ) (j : Join) (bs : List Bool) → meaning s n kind arg ≡ aJoin j → countTrue bs ≡ yes → length bs ≡ total → r ≡ joinSays j bs) ⌝ }
 {
     match kind {
         image::AT_LEAST => arg <= yes,
@@ -29,7 +29,7 @@ fn join_says(kind: u32, arg: u64, yes: u64, total: u64) -> bool
 // size falls at each call, and leaves need none.
 pub fn evaluate(image: &[u8], n: usize, from: usize, size: usize, says: &[u8], least: u8) -> bool
     requires { ⌜ Row (now image) n from size × (n ≤ length (now says)) ⌝ }
-    ensures { λ r. ⌜ ((ρ : Rule) → sizeOf ρ ≡ size → Stands ρ (cellAt (now (image .entry)) n) from → r ≡ evictBy (saysAt (now (says .entry)) least) ρ from) ⌝ }
+    ensures { λ r. ⌜ ((ρ : Rule) → sizeOf ρ ≡ size → EncodedAt ρ (cellAt (now (image .entry)) n) from → r ≡ evictBy (saysAt (now (says .entry)) least) ρ from) ⌝ }
 {
     let at = from + size - 1;
     let root = node_at(image, n, at);

@@ -7,8 +7,8 @@ ghost use Rattle.rules.specs.Rule.{Leaf, Rule};
 ghost use Rattle.rules.specs.Rule.{size as sizeOf};
 ghost use Rattle.image.specs.Kinds.{namedKind};
 ghost use Rattle.image.specs.Decode.{aLeaf, meaning, cellAt};
-ghost use Rattle.image.specs.Inner.Standing.{Stands};
-ghost use Rattle.image.specs.Inner.Subtree.{Inside};
+ghost use Rattle.image.specs.Inner.Standing.{EncodedAt};
+ghost use Rattle.image.specs.Inner.Subtree.{ValidSubtree};
 ghost use Rattle.store_table.specs.Stores.{Entry, twinOf, countIn, entriesIn};
 ghost use Rattle.store_table.specs.Inner.Index.{Indexed};
 ghost use Rattle.verdict.specs.Inner.Grades.{Graded, nameGrade, GradedAll, WithStores};
@@ -60,8 +60,8 @@ pub fn grade_leaves(
     slots: &[u8; 512],
     grades: &mut [u8],
 ) -> Unknown
-    requires { ⌜ Inside (now image) n 0 n × ((n ≤ length (now grades)) × (WithStores (now stores) × Indexed (now stores) (countIn (now stores)) (now starts) (now slots))) ⌝ }
-    ensures { λ r. ⌜ ((ρ : Rule) → sizeOf ρ ≡ n → Stands ρ (cellAt (now (image .entry)) n) 0 → r ≡ unknownIn (entriesIn (now (stores .entry))) ρ 0) × (r ≡ Unknown.No → GradedAll (now (image .entry)) n (now (grades .exit)) (entriesIn (now (stores .entry)))) ⌝ }
+    requires { ⌜ ValidSubtree (now image) n 0 n × ((n ≤ length (now grades)) × (WithStores (now stores) × Indexed (now stores) (countIn (now stores)) (now starts) (now slots))) ⌝ }
+    ensures { λ r. ⌜ ((ρ : Rule) → sizeOf ρ ≡ n → EncodedAt ρ (cellAt (now (image .entry)) n) 0 → r ≡ unknownIn (entriesIn (now (stores .entry))) ρ 0) × (r ≡ Unknown.No → GradedAll (now (image .entry)) n (now (grades .exit)) (entriesIn (now (stores .entry)))) ⌝ }
 {
     let mut i = 0;
     while i < n {

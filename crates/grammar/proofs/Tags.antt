@@ -12,7 +12,7 @@ use Rattle.tokens.proofs.Token.{the-type}
 use Rattle.tokens.specs.Token.{placeOf, tokenAt, tokensFrom}
 use Rattle.tokens.specs.declared.Token.{Token}
 use Rattle.tokens.specs.declared.Token.the-variants.{End, Open, Close, Comma, And, Or, Word, Fault}
-use Rattle.grammar.specs.Grammar.{tokenKind, openSign, commaSign, closeSign, missing, after, undue, dueIn, refuse, headIn}
+use Rattle.grammar.specs.Grammar.{tokenKind, openSign, commaSign, closeSign, missing, after, otherToken, expectedWord, refuse, primaryStart}
 use Rattle.grammar.proofs.Laws.TokenListLaws.{after-off, word-undue}
 use Rattle.grammar.proofs.Laws.HeadLaws.{head-none}
 
@@ -40,7 +40,7 @@ not-kind ks k h t o e = miss ks k h (subst (OneOf ks) (tag-kind t ∙ e) o)
 
 -- the token at a position is no word, is not this sign, is neither a comma nor a closing bracket, begins no primary
 module _ (s : List ℕ) (at : ℕ) {t : Token} (e : t ≡ tokenAt s at) where
-  pub no-word : OneOf (others 6) (tagOf the-type t) → dueIn s (tokensFrom s at) ≡ undue (placeOf t)
+  pub no-word : OneOf (others 6) (tagOf the-type t) → expectedWord s (tokensFrom s at) ≡ otherToken (placeOf t)
   no-word o = word-undue s at (sym e) (not-kind (others 6) 6 tt t o)
 
   pub no-sign : (k : ℕ) → T (not (hasKey (others k) k)) → OneOf (others k) (tagOf the-type t) → after k (tokensFrom s at) ≡ missing
@@ -51,7 +51,7 @@ module _ (s : List ℕ) (at : ℕ) {t : Token} (e : t ≡ tokenAt s at) where
       let ks = without commaSign (others closeSign) in
       (after-off s at (sym e) commaSign (not-kind ks commaSign tt t o), after-off s at (sym e) closeSign (not-kind ks closeSign tt t o))
 
-  pub no-primary : (d : ℕ) → OneOf (without openSign (others 6)) (tagOf the-type t) → headIn s d (tokensFrom s at) ≡ refuse noExpression (placeOf t)
+  pub no-primary : (d : ℕ) → OneOf (without openSign (others 6)) (tagOf the-type t) → primaryStart s d (tokensFrom s at) ≡ refuse noExpression (placeOf t)
   no-primary d o =
       let ks = without openSign (others 6) in
       head-none s d at (sym e) (not-kind ks openSign tt t o) (not-kind ks 6 tt t o)

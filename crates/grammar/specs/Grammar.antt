@@ -6,7 +6,7 @@ use lib.Dec.{ltb, eqb}
 use Rattle.slices.specs.Text.{bytes, part}
 use Rattle.ascii.specs.Letters.{equalIgnoringCase}
 use Rattle.refusals.specs.declared.Refusal.{Refusal}
-use Rattle.refusals.specs.Refusals.{refusal, noExpression, openBracket, unknownFunction, missingArgument, badCount, badDuration, emptyList, tooDeep}
+use Rattle.refusals.specs.Refusals.{refusal, noExpression, bracketExpected, unknownFunction, missingArgument, badCount, badDuration, emptyList, tooDeep}
 use Rattle.tokens.specs.declared.Token.{Token}
 use Rattle.tokens.specs.declared.Token.the-variants.{End, Open, Close, Comma, And, Or, Word, Fault}
 use Rattle.tokens.specs.Token.{placeOf}
@@ -68,72 +68,72 @@ firstPlace (t ∷ ts) = placeOf t
 -- ---- how a primary begins
 
 -- a leaf, with the tokens left; a bracket; a function with a list, which stands at a place; or a refusal
-pub data Head : Type 0 where
-  aLeaf : Leaf → List Token → Head
-  aGroup : List Token → Head
-  aList : Join → ℕ → List Token → Head
-  refused : Refusal → Head
+pub data PrimaryStart : Type 0 where
+  aLeaf : Leaf → List Token → PrimaryStart
+  aGroup : List Token → PrimaryStart
+  aList : Join → ℕ → List Token → PrimaryStart
+  refused : Refusal → PrimaryStart
 
-abbrev pub refuse : ℕ → ℕ → Head
+abbrev pub refuse : ℕ → ℕ → PrimaryStart
 refuse n p = refused (refusal n p)
 
 -- "`)` expected"
-abbrev pub closed : Rest → ℕ → (List Token → Head) → Head
+abbrev pub closed : Rest → ℕ → (List Token → PrimaryStart) → PrimaryStart
 closed (rest ts) p then = then ts
-closed missing p then = refuse openBracket p
+closed missing p then = refuse bracketExpected p
 
--- a word that is due: its place, its bytes, the tokens left; or the place of what stands there
-pub data Due : Type 0 where
-  due : ℕ → List ℕ → List Token → Due
-  undue : ℕ → Due
+-- a word that is expected: its place, its bytes, the tokens left; or the place of what stands there
+pub data ExpectedWord : Type 0 where
+  expected : ℕ → List ℕ → List Token → ExpectedWord
+  otherToken : ℕ → ExpectedWord
 
-abbrev pub dueBy : List ℕ → Token → List Token → Due
-dueBy s (Word p a b q n) ts = due p (part s a b) ts
-dueBy s (End p) ts = undue p
-dueBy s (Open p n) ts = undue p
-dueBy s (Close p n) ts = undue p
-dueBy s (Comma p n) ts = undue p
-dueBy s (And p n) ts = undue p
-dueBy s (Or p n) ts = undue p
-dueBy s (Fault f) ts = undue (f .place)
+abbrev pub expectedBy : List ℕ → Token → List Token → ExpectedWord
+expectedBy s (Word p a b q n) ts = expected p (part s a b) ts
+expectedBy s (End p) ts = otherToken p
+expectedBy s (Open p n) ts = otherToken p
+expectedBy s (Close p n) ts = otherToken p
+expectedBy s (Comma p n) ts = otherToken p
+expectedBy s (And p n) ts = otherToken p
+expectedBy s (Or p n) ts = otherToken p
+expectedBy s (Fault f) ts = otherToken (f .place)
 
-unfoldable pub dueIn : List ℕ → List Token → Due
-dueIn s [] = undue 0
-dueIn s (t ∷ ts) = dueBy s t ts
+unfoldable pub expectedWord : List ℕ → List Token → ExpectedWord
+expectedWord s [] = otherToken 0
+expectedWord s (t ∷ ts) = expectedBy s t ts
 
 -- "A call whose next token is no word stops there with 11"
-abbrev pub whenDue : Due → (ℕ → List ℕ → List Token → Head) → Head
-whenDue (due p w ts) then = then p w ts
-whenDue (undue p) then = refuse missingArgument p
+abbrev pub requireWord : ExpectedWord → (ℕ → List ℕ → List Token → PrimaryStart) → PrimaryStart
+requireWord (expected p w ts) then = then p w ts
+requireWord (otherToken p) then = refuse missingArgument p
 
 -- a number that a word is read as, or the refusal of the word at p
-abbrev pub valued : Parsed → ℕ → ℕ → (ℕ → Head) → Head
+abbrev pub valued : Parsed → ℕ → ℕ → (ℕ → PrimaryStart) → PrimaryStart
 valued (Value n) number p then = then n
 valued Invalid number p then = refuse number p
 
 -- "`older_than` tests `)` before the duration"
-unfoldable pub olderThanHead : List ℕ → List Token → Head
-olderThanHead s ts =
-    whenDue (dueIn s ts) (λ p w us.
+unfoldable pub olderThanStart : List ℕ → List Token → PrimaryStart
+olderThanStart s ts =
+    requireWord (expectedWord s ts) (λ p w us.
     closed (after closeSign us) (firstPlace us) (λ vs.
     valued (durationOf w) badDuration p (λ ms. aLeaf (olderThan ms) vs)))
 
 -- "`readable` tests its count before `)`"
-unfoldable pub readableHead : List ℕ → List Token → Head
-readableHead s ts =
-    whenDue (dueIn s ts) (λ p w us.
+unfoldable pub readableStart : List ℕ → List Token → PrimaryStart
+readableStart s ts =
+    requireWord (expectedWord s ts) (λ p w us.
     valued (countOf w) badCount p (λ k.
     closed (after closeSign us) (firstPlace us) (λ vs. aLeaf (readable k) vs)))
 
 -- "the comma after a count expected"
-abbrev pub afterComma : Rest → ℕ → (List Token → Head) → Head
+abbrev pub afterComma : Rest → ℕ → (List Token → PrimaryStart) → PrimaryStart
 afterComma (rest ts) p then = then ts
 afterComma missing p then = refuse missingArgument p
 
 -- "`at_least` tests count, comma, list"; its word stands at `place`
-unfoldable pub atLeastHead : List ℕ → ℕ → List Token → Head
-atLeastHead s place ts =
-    whenDue (dueIn s ts) (λ p w us.
+unfoldable pub atLeastStart : List ℕ → ℕ → List Token → PrimaryStart
+atLeastStart s place ts =
+    requireWord (expectedWord s ts) (λ p w us.
     valued (countOf w) badCount p (λ k.
     afterComma (after commaSign us) (firstPlace us) (λ vs. aList (atLeast k) place vs)))
 
@@ -150,46 +150,46 @@ functionOf w =
     (cond (equalIgnoringCase w (bytes "at_least")) AtLeast Unknown))))))
 
 -- behind its bracket; its word stands at `place`
-abbrev pub callHead : List ℕ → ℕ → Function → List Token → Head
-callHead s place OlderThan ts = olderThanHead s ts
-callHead s place Readable ts = readableHead s ts
-callHead s place Any ts = aList any place ts
-callHead s place All ts = aList all place ts
-callHead s place AtLeast ts = atLeastHead s place ts
-callHead s place Unknown ts = refuse unknownFunction place
+abbrev pub callStart : List ℕ → ℕ → Function → List Token → PrimaryStart
+callStart s place OlderThan ts = olderThanStart s ts
+callStart s place Readable ts = readableStart s ts
+callStart s place Any ts = aList any place ts
+callStart s place All ts = aList all place ts
+callStart s place AtLeast ts = atLeastStart s place ts
+callStart s place Unknown ts = refuse unknownFunction place
 
 -- "Otherwise `readable`, any case .., is readable(1), and another word names a store."; since Job 2 of unquoted words only
-unfoldable pub bareLeaf : List ℕ → Leaf
-bareLeaf w = cond (equalIgnoringCase w (bytes "readable")) (readable 1) (named w)
+unfoldable pub unquotedLeaf : List ℕ → Leaf
+unquotedLeaf w = cond (equalIgnoringCase w (bytes "readable")) (readable 1) (named w)
 
 -- 15, "a bracket opened while 64 stand open"; the bracket stands at p, and d stand open
-abbrev pub opened : ℕ → ℕ → Head → Head
+abbrev pub opened : ℕ → ℕ → PrimaryStart → PrimaryStart
 opened d p h = cond (ltb d 64) h (refuse tooDeep p)
 
 -- an unquoted word at `place`; "After the bracket come 15, then 10."
-abbrev pub unquotedHead : List ℕ → ℕ → ℕ → List ℕ → List Token → Rest → Head
-unquotedHead s d place w ts missing = aLeaf (bareLeaf w) ts
-unquotedHead s d place w ts (rest us) = opened d (firstPlace ts) (callHead s place (functionOf w) us)
+abbrev pub unquotedStart : List ℕ → ℕ → ℕ → List ℕ → List Token → Rest → PrimaryStart
+unquotedStart s d place w ts missing = aLeaf (unquotedLeaf w) ts
+unquotedStart s d place w ts (rest us) = opened d (firstPlace ts) (callStart s place (functionOf w) us)
 
 -- a word, quoted or not; Job 2: "A quoted word, whatever follows, now names a store."
-abbrev pub wordHead : List ℕ → ℕ → ℕ → List ℕ → Bool → List Token → Head
-wordHead s d place w true ts = aLeaf (named w) ts
-wordHead s d place w false ts = unquotedHead s d place w ts (after openSign ts)
+abbrev pub wordStart : List ℕ → ℕ → ℕ → List ℕ → Bool → List Token → PrimaryStart
+wordStart s d place w true ts = aLeaf (named w) ts
+wordStart s d place w false ts = unquotedStart s d place w ts (after openSign ts)
 
-abbrev pub headBy : List ℕ → ℕ → Token → List Token → Head
-headBy s d (Word p a b q n) ts = wordHead s d p (part s a b) q ts
-headBy s d (Open p n) ts = opened d p (aGroup ts)
-headBy s d (End p) ts = refuse noExpression p
-headBy s d (Close p n) ts = refuse noExpression p
-headBy s d (Comma p n) ts = refuse noExpression p
-headBy s d (And p n) ts = refuse noExpression p
-headBy s d (Or p n) ts = refuse noExpression p
-headBy s d (Fault f) ts = refuse noExpression (f .place)
+abbrev pub startBy : List ℕ → ℕ → Token → List Token → PrimaryStart
+startBy s d (Word p a b q n) ts = wordStart s d p (part s a b) q ts
+startBy s d (Open p n) ts = opened d p (aGroup ts)
+startBy s d (End p) ts = refuse noExpression p
+startBy s d (Close p n) ts = refuse noExpression p
+startBy s d (Comma p n) ts = refuse noExpression p
+startBy s d (And p n) ts = refuse noExpression p
+startBy s d (Or p n) ts = refuse noExpression p
+startBy s d (Fault f) ts = refuse noExpression (f .place)
 
 -- what a primary begins with, where d brackets stand open
-unfoldable pub headIn : List ℕ → ℕ → List Token → Head
-headIn s d [] = refuse noExpression 0
-headIn s d (t ∷ ts) = headBy s d t ts
+unfoldable pub primaryStart : List ℕ → ℕ → List Token → PrimaryStart
+primaryStart s d [] = refuse noExpression 0
+primaryStart s d (t ∷ ts) = startBy s d t ts
 
 -- ---- chains
 
@@ -218,60 +218,60 @@ chain j l r = node j (leftRules j l) r
 -- ---- or, and, primary
 
 -- a rule, with the tokens left; or a refusal
-pub data Got : Type 0 where
-  got : Rule → List Token → Got
-  bad : Refusal → Got
+pub data ParseResult : Type 0 where
+  got : Rule → List Token → ParseResult
+  bad : Refusal → ParseResult
 
-abbrev pub onto : Join → Rule → Got → Got
+abbrev pub onto : Join → Rule → ParseResult → ParseResult
 onto j l (got r ts) = got (chain j l r) ts
 onto j l (bad f) = bad f
 
-abbrev pub onRest : Rest → (List Token → Got) → Got → Got
+abbrev pub onRest : Rest → (List Token → ParseResult) → ParseResult → ParseResult
 onRest (rest ts) then other = then ts
 onRest missing then other = other
 
 -- "`)` expected" behind a rule
-abbrev pub closeAfter : Got → Got
-closeAfter (got r ts) = onRest (after closeSign ts) (λ us. got r us) (bad (refusal openBracket (firstPlace ts)))
+abbrev pub closeAfter : ParseResult → ParseResult
+closeAfter (got r ts) = onRest (after closeSign ts) (λ us. got r us) (bad (refusal bracketExpected (firstPlace ts)))
 closeAfter (bad f) = bad f
 
 -- by how a primary begins: a leaf; a bracket, with what `inner` reads behind it; a list, with what `list` reads
-abbrev pub byHead : Head → (List Token → Got) → (Join → List Token → Got) → Got
-byHead (aLeaf l ts) inner list = got (leaf l) ts
-byHead (aGroup ts) inner list = closeAfter (inner ts)
-byHead (aList j place ts) inner list = onRest (after closeSign ts) (λ us. bad (refusal emptyList place)) (list j ts)
-byHead (refused f) inner list = bad f
+abbrev pub byStart : PrimaryStart → (List Token → ParseResult) → (Join → List Token → ParseResult) → ParseResult
+byStart (aLeaf l ts) inner list = got (leaf l) ts
+byStart (aGroup ts) inner list = closeAfter (inner ts)
+byStart (aList j place ts) inner list = onRest (after closeSign ts) (λ us. bad (refusal emptyList place)) (list j ts)
+byStart (refused f) inner list = bad f
 
 -- "Or calls and, and calls primary, primary calls or again, inside brackets or arguments." The first number bounds how deep
 -- the calls go; s is the text, and d brackets stand open.
 unfoldable mutual
-  pub orIn : ℕ → List ℕ → ℕ → List Token → Got
+  pub orIn : ℕ → List ℕ → ℕ → List Token → ParseResult
   orIn zero s d ts = bad (refusal 0 0)
   orIn (suc f) s d ts = orMore f s d (andIn f s d ts)
 
-  pub orMore : ℕ → List ℕ → ℕ → Got → Got
+  pub orMore : ℕ → List ℕ → ℕ → ParseResult → ParseResult
   orMore zero s d g = bad (refusal 0 0)
   orMore (suc f) s d (bad r) = bad r
   orMore (suc f) s d (got l ts) = onRest (after orSign ts) (λ us. orMore f s d (onto any l (andIn f s d us))) (got l ts)
 
-  pub andIn : ℕ → List ℕ → ℕ → List Token → Got
+  pub andIn : ℕ → List ℕ → ℕ → List Token → ParseResult
   andIn zero s d ts = bad (refusal 0 0)
   andIn (suc f) s d ts = andMore f s d (primaryIn f s d ts)
 
-  pub andMore : ℕ → List ℕ → ℕ → Got → Got
+  pub andMore : ℕ → List ℕ → ℕ → ParseResult → ParseResult
   andMore zero s d g = bad (refusal 0 0)
   andMore (suc f) s d (bad r) = bad r
   andMore (suc f) s d (got l ts) = onRest (after andSign ts) (λ us. andMore f s d (onto all l (primaryIn f s d us))) (got l ts)
 
-  pub primaryIn : ℕ → List ℕ → ℕ → List Token → Got
+  pub primaryIn : ℕ → List ℕ → ℕ → List Token → ParseResult
   primaryIn zero s d ts = bad (refusal 0 0)
   primaryIn (suc f) s d ts =
-      byHead (headIn s d ts) (λ us. orIn f s (d + 1) us) (λ j us. listMore f s d j nil (orIn f s (d + 1) us))
+      byStart (primaryStart s d ts) (λ us. orIn f s (d + 1) us) (λ j us. listMore f s d j nil (orIn f s (d + 1) us))
 
-  -- an argument was read, behind others: "after a comma that follows an argument an expression is due"
-  pub listMore : ℕ → List ℕ → ℕ → Join → Rules → Got → Got
+  -- an argument was read, behind others: "after a comma that follows an argument an expression is expected"
+  pub listMore : ℕ → List ℕ → ℕ → Join → Rules → ParseResult → ParseResult
   listMore zero s d j rs g = bad (refusal 0 0)
   listMore (suc f) s d j rs (bad r) = bad r
   listMore (suc f) s d j rs (got r ts) =
       onRest (after commaSign ts) (λ us. listMore f s d j (more rs r) (orIn f s (d + 1) us))
-      (onRest (after closeSign ts) (λ us. got (node j rs r) us) (bad (refusal openBracket (firstPlace ts))))
+      (onRest (after closeSign ts) (λ us. got (node j rs r) us) (bad (refusal bracketExpected (firstPlace ts))))

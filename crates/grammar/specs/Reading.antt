@@ -13,7 +13,7 @@ use Rattle.tokens.specs.declared.Scanned.{Scanned}
 use Rattle.tokens.specs.declared.Scanned.the-variants.{Clean, Refused}
 use Rattle.tokens.specs.Token.{ascii, tokensFrom, scanOf}
 use Rattle.rules.specs.Rule.{Rule}
-use Rattle.grammar.specs.Grammar.{tokenKind, firstPlace, Got, got, bad, orIn}
+use Rattle.grammar.specs.Grammar.{tokenKind, firstPlace, ParseResult, got, bad, orIn}
 
 -- a rule, or a refusal
 pub data Read : Type 0 where
@@ -26,7 +26,7 @@ atEnd [] = true
 atEnd (t ∷ ts) = eqb (tokenKind t) 0
 
 -- 9, "tokens left after the rule"
-abbrev pub ended : Got → Read
+abbrev pub ended : ParseResult → Read
 ended (got r ts) = cond (atEnd ts) (rule r) (refused (refusal trailingToken (firstPlace ts)))
 ended (bad f) = refused f
 

@@ -21,7 +21,7 @@ pub enum Combinator {
 
 // A store's name, as its part of the text; another leaf; a bracket; a function with a list, and the place of its word; each
 // with where the text goes on. Or a refusal.
-pub enum Head {
+pub enum PrimaryStart {
     Name {
         start: usize,
         end: usize,
@@ -85,10 +85,10 @@ pub fn combinator_arg(c: Combinator) -> u64
 }
 
 // A primary that does not begin, refused with a number at a place.
-pub fn refuse(number: u8, place: usize) -> Head
-    ensures { λ r. ⌜ r ≡ Head.Refused (refusal number place) ⌝ }
+pub fn refuse(number: u8, place: usize) -> PrimaryStart
+    ensures { λ r. ⌜ r ≡ PrimaryStart.Refused (refusal number place) ⌝ }
 {
-    Head::Refused(Refusal { number, place })
+    PrimaryStart::Refused(Refusal { number, place })
 }
 
 // The function that a word names, in any case of letters.

@@ -10,12 +10,12 @@ ghost use Rattle.image.specs.Decode.{nodeAt};
 ghost use Rattle.image.specs.Inner.Leaves.{isLeaf};
 ghost use Rattle.image.specs.Inner.Valid.{nodeOf};
 ghost use Rattle.image.specs.Inner.Subtree.{NameInside};
-use little_endian::le2;
-use little_endian::le4;
-use little_endian::le8;
-use little_endian::put2;
-use little_endian::put4;
-use little_endian::put8;
+use little_endian::read_u16;
+use little_endian::read_u32;
+use little_endian::read_u64;
+use little_endian::write_u16;
+use little_endian::write_u32;
+use little_endian::write_u64;
 
 // The kinds of nodes: document 01's numbers.
 pub const NAMED: u32 = 0;
@@ -44,7 +44,7 @@ fn put_tags(s: &mut [u8], at: usize, tags: &[u32], n: usize)
 {
     let mut i = 0;
     while i < n {
-        put4(s, at + 4 * i, tags[i] as u64);
+        write_u32(s, at + 4 * i, tags[i] as u64);
         i += 1;
     }
 }
@@ -56,7 +56,7 @@ fn put_args(s: &mut [u8], at: usize, args: &[u64], n: usize)
 {
     let mut i = 0;
     while i < n {
-        put8(s, at + 8 * i, args[i]);
+        write_u64(s, at + 8 * i, args[i]);
         i += 1;
     }
 }
@@ -85,8 +85,8 @@ pub fn write_image(
     requires { ⌜ (n ≤ length (now tags)) × ((n ≤ length (now args)) × ((m ≤ length (now names)) × (namesStart n + m ≤ length (now image)))) ⌝ }
     ensures { λ r. ⌜ (r ≡ namesStart n + m) × (now (image .exit) ≡ written (now (image .entry)) 0 (imageOf n (take n (now (tags .entry))) (take n (now (args .entry))) (take m (now (names .entry))))) ⌝ }
 {
-    put2(image, 0, n as u64);
-    put2(image, 2, m as u64);
+    write_u16(image, 0, n as u64);
+    write_u16(image, 2, m as u64);
     put_tags(image, 4, tags, n);
     put_args(image, 4 + 4 * n, args, n);
     put_names(image, 4 + 12 * n, names, m);
@@ -98,7 +98,7 @@ pub fn node_count(image: &[u8]) -> usize
     requires { ⌜ 4 ≤ length (now image) ⌝ }
     ensures { λ r. ⌜ (r ≡ nodeCountIn (now (image .entry))) × (r < 2 ^ 16) ⌝ }
 {
-    le2(image, 0) as usize
+    read_u16(image, 0) as usize
 }
 
 // How many name bytes an image has.
@@ -106,7 +106,7 @@ pub fn name_byte_count(image: &[u8]) -> usize
     requires { ⌜ 4 ≤ length (now image) ⌝ }
     ensures { λ r. ⌜ (r ≡ nameByteCountIn (now (image .entry))) × (r < 2 ^ 16) ⌝ }
 {
-    le2(image, 2) as usize
+    read_u16(image, 2) as usize
 }
 
 // Where the name bytes begin in an image of n nodes.
@@ -129,9 +129,9 @@ pub fn node_at(image: &[u8], n: usize, i: usize) -> Node
     requires { ⌜ (namesStart n ≤ length (now image)) × (i < n) ⌝ }
     ensures { λ r. ⌜ nodeOf r ≡ nodeAt (now (image .entry)) n i ⌝ }
 {
-    let tag = le4(image, 4 + 4 * i);
+    let tag = read_u32(image, 4 + 4 * i);
     let kind = (tag % 256) as u32;
-    let arg = le8(image, 4 + 4 * n + 8 * i);
+    let arg = read_u64(image, 4 + 4 * n + 8 * i);
     Node {
         kind,
         size: (tag / 256) as usize,

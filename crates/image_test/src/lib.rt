@@ -6,7 +6,7 @@ ghost use lib.ListN.{length};
 ghost use Rattle.rules.specs.Rule.{Rules};
 ghost use Rattle.image.specs.Layout.{namesStart};
 ghost use Rattle.image.specs.Decode.{cellAt, split, build, isSome, bind, only, nodeAt, nameEnd, endsAt, decode};
-ghost use Rattle.image.specs.Inner.Valid.{UpTo};
+ghost use Rattle.image.specs.Inner.Valid.{BuiltUpTo};
 use image::is_leaf;
 use image::name_byte_count;
 use image::names_start;
@@ -16,7 +16,7 @@ use slices::ascii_from;
 
 // Whether the last of the rules that the first `end` nodes make are just the nodes from `from` on.
 fn children_fit(image: &[u8], n: usize, from: usize, end: usize) -> bool
-    requires { ⌜ UpTo (now image) n end × (from ≤ end) ⌝ }
+    requires { ⌜ BuiltUpTo (now image) n end × (from ≤ end) ⌝ }
     ensures { λ r. ⌜ ((rs : Rules) → build (cellAt (now (image .entry)) n) end ≡ some rs → r ≡ isSome (split rs (end - from))) ⌝ }
 {
     let mut at = end;
@@ -33,7 +33,7 @@ fn children_fit(image: &[u8], n: usize, from: usize, end: usize) -> bool
 
 // Whether node i goes on from the rules that the nodes before it make.
 fn node_fits(image: &[u8], n: usize, i: usize) -> bool
-    requires { ⌜ UpTo (now image) n i × (i < n) ⌝ }
+    requires { ⌜ BuiltUpTo (now image) n i × (i < n) ⌝ }
     ensures { λ r. ⌜ r ≡ isSome (build (cellAt (now (image .entry)) n) (suc i)) ⌝ }
 {
     let node = node_at(image, n, i);

@@ -5,16 +5,16 @@ ghost use lib.ListN.{length};
 ghost use Rattle.rules.specs.Rule.{Leaf};
 ghost use Rattle.image.specs.Kinds.{namedKind};
 ghost use Rattle.image.specs.Decode.{aLeaf, meaning};
-ghost use Rattle.image.specs.Inner.Subtree.{Inside, NameInside};
+ghost use Rattle.image.specs.Inner.Subtree.{ValidSubtree, NameInside};
 ghost use Rattle.evaluate.specs.Evict.{leafSays};
-ghost use Rattle.leaf_answers.specs.Inner.Known.{Known, worldIn, Said};
+ghost use Rattle.leaf_answers.specs.Inner.Known.{Known, envIn, Said};
 use confirmed::is_confirmed;
 use image::is_leaf;
 use image::name_of;
 use image::node_at;
 
 // What a decision looks at beside the list: the age, and how many readable stores are confirmed.
-pub struct View {
+pub struct EnvNumbers {
     pub age: u64,
     pub ready: u64,
 }
@@ -27,13 +27,13 @@ fn leaf_says(
     arg: u64,
     stores: &[u8],
     list: &[u8],
-    view: View,
+    view: EnvNumbers,
     starts: &[u16; 64],
     slots: &[u8; 512],
     marks: &[u8; 64],
 ) -> bool
     requires { ⌜ (kind ≡ namedKind → NameInside (now image) n arg) × Known (now stores) (now list) (now starts) (now slots) (now marks) ⌝ }
-    ensures { λ r. ⌜ ((l : Leaf) → meaning (now (image .entry)) n kind arg ≡ aLeaf l → r ≡ leafSays l (worldIn (now (list .entry)) view)) ⌝ }
+    ensures { λ r. ⌜ ((l : Leaf) → meaning (now (image .entry)) n kind arg ≡ aLeaf l → r ≡ leafSays l (envIn (now (list .entry)) view)) ⌝ }
 {
     match kind {
         image::NAMED => is_confirmed(name_of(image, n, arg), stores, list, starts, slots, marks),
@@ -49,14 +49,14 @@ pub fn say_leaves(
     n: usize,
     stores: &[u8],
     list: &[u8],
-    view: View,
+    view: EnvNumbers,
     starts: &[u16; 64],
     slots: &[u8; 512],
     marks: &[u8; 64],
     says: &mut [u8],
 )
-    requires { ⌜ Inside (now image) n 0 n × ((n ≤ length (now says)) × Known (now stores) (now list) (now starts) (now slots) (now marks)) ⌝ }
-    ensures { λ _. ⌜ Said (now (image .entry)) n (now (says .exit)) 1 (worldIn (now (list .entry)) view) ⌝ }
+    requires { ⌜ ValidSubtree (now image) n 0 n × ((n ≤ length (now says)) × Known (now stores) (now list) (now starts) (now slots) (now marks)) ⌝ }
+    ensures { λ _. ⌜ Said (now (image .entry)) n (now (says .exit)) 1 (envIn (now (list .entry)) view) ⌝ }
 {
     let mut i = 0;
     while i < n {

@@ -5,7 +5,7 @@ use mathlib.Core.List.{List, [], _∷_, _++_}
 use lib.Dec.{eqb}
 use lib.ListN.{length, take, replicate}
 use Rattle.slices.specs.Text.{bytes, part, runEnd, other}
-use Rattle.slices.specs.Search.{behindLast}
+use Rattle.slices.specs.Search.{endOfLast}
 use Rattle.ascii.specs.Letters.{within}
 use Rattle.refusals.specs.Refusals.{rowOf}
 use Rattle.decimal.specs.Digits.{digitsOf}
@@ -21,7 +21,7 @@ numbersLine w a b = w ++ (digitsOf a ++ (bytes " " ++ (digitsOf b ++ lineEnd)))
 
 -- where its last byte above 32 ends
 abbrev pub textEnd : List ℕ → ℕ
-textEnd s = behindLast (within 33 255) s (length s)
+textEnd s = endOfLast (within 33 255) s (length s)
 
 abbrev pub trimmed : List ℕ → List ℕ
 trimmed s = take (textEnd s) s
@@ -43,7 +43,7 @@ shownAll (b ∷ s) = shown b ∷ shownAll s
 
 -- the line in which a position stands begins behind the last line end before it, and ends before the next one
 abbrev pub lineStart : List ℕ → ℕ → ℕ
-lineStart s p = behindLast (within 10 10) s p
+lineStart s p = endOfLast (within 10 10) s p
 
 abbrev pub lineStop : List ℕ → ℕ → ℕ
 lineStop s p = runEnd (other 10) s p

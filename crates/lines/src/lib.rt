@@ -2,18 +2,18 @@
 ghost use mathlib.Core.Path.{_≡_};
 ghost use Prim.Native.Nat.{_+_, _≤_, _*_};
 ghost use lib.ListN.{length, replicate};
-ghost use Rattle.slices.specs.Written.{Put};
+ghost use Rattle.slices.specs.Written.{WrittenAt};
 ghost use Rattle.lines.specs.Lines.{numbersLine, trimmed, meaningLine, shown, shownAll, markedLine};
 use decimal::digits::append_digits;
 use refusals::row_of;
 use slices::append;
-use slices::behind_last;
+use slices::end_of_last;
 use slices::mark_at;
 
 // A line of a word and two numbers.
 pub fn append_numbers(text: &mut [u8], at: usize, word: &[u8], a: u64, b: u64) -> usize
     requires { ⌜ at + length (now word) + 42 ≤ length (now text) ⌝ }
-    ensures { λ r. ⌜ Put (now (text .entry)) (now (text .exit)) at r (numbersLine (now (word .entry)) a b) ⌝ }
+    ensures { λ r. ⌜ WrittenAt (now (text .entry)) (now (text .exit)) at r (numbersLine (now (word .entry)) a b) ⌝ }
 {
     let word_end = append(text, at, word);
     let a_end = append_digits(text, word_end, a);
@@ -25,16 +25,16 @@ pub fn append_numbers(text: &mut [u8], at: usize, word: &[u8], a: u64, b: u64) -
 // A piece without the blanks behind it.
 fn append_trimmed(text: &mut [u8], at: usize, piece: &[u8]) -> usize
     requires { ⌜ at + length (now piece) ≤ length (now text) ⌝ }
-    ensures { λ r. ⌜ Put (now (text .entry)) (now (text .exit)) at r (trimmed (now (piece .entry))) ⌝ }
+    ensures { λ r. ⌜ WrittenAt (now (text .entry)) (now (text .exit)) at r (trimmed (now (piece .entry))) ⌝ }
 {
-    let end = behind_last(piece, piece.len(), 33, 255);
+    let end = end_of_last(piece, piece.len(), 33, 255);
     append(text, at, &piece[..end])
 }
 
 // A line of a refusal's word and what it means.
 pub fn append_meaning(text: &mut [u8], at: usize, number: u8) -> usize
     requires { ⌜ at + 85 ≤ length (now text) ⌝ }
-    ensures { λ r. ⌜ Put (now (text .entry)) (now (text .exit)) at r (meaningLine number) ⌝ }
+    ensures { λ r. ⌜ WrittenAt (now (text .entry)) (now (text .exit)) at r (meaningLine number) ⌝ }
 {
     let row = row_of(number);
     let word = row.word;
@@ -64,7 +64,7 @@ fn shown_byte(b: u8) -> u8
 // Bytes as they are shown.
 pub fn append_shown(text: &mut [u8], at: usize, piece: &[u8]) -> usize
     requires { ⌜ at + length (now piece) ≤ length (now text) ⌝ }
-    ensures { λ r. ⌜ Put (now (text .entry)) (now (text .exit)) at r (shownAll (now (piece .entry))) ⌝ }
+    ensures { λ r. ⌜ WrittenAt (now (text .entry)) (now (text .exit)) at r (shownAll (now (piece .entry))) ⌝ }
 {
     let mut i = 0;
     while i < piece.len() {
@@ -77,7 +77,7 @@ pub fn append_shown(text: &mut [u8], at: usize, piece: &[u8]) -> usize
 // So many blanks.
 fn append_blanks(text: &mut [u8], at: usize, n: usize) -> usize
     requires { ⌜ at + n ≤ length (now text) ⌝ }
-    ensures { λ r. ⌜ Put (now (text .entry)) (now (text .exit)) at r (replicate n 32) ⌝ }
+    ensures { λ r. ⌜ WrittenAt (now (text .entry)) (now (text .exit)) at r (replicate n 32) ⌝ }
 {
     let mut i = 0;
     while i < n {
@@ -90,9 +90,9 @@ fn append_blanks(text: &mut [u8], at: usize, n: usize) -> usize
 // The line of a rule in which a place stands, and a line with a mark under the place.
 pub fn append_marked(text: &mut [u8], at: usize, rule: &[u8], place: usize) -> usize
     requires { ⌜ (place ≤ length (now rule)) × (at + 2 * length (now rule) + 3 ≤ length (now text)) ⌝ }
-    ensures { λ r. ⌜ Put (now (text .entry)) (now (text .exit)) at r (markedLine (now (rule .entry)) place) ⌝ }
+    ensures { λ r. ⌜ WrittenAt (now (text .entry)) (now (text .exit)) at r (markedLine (now (rule .entry)) place) ⌝ }
 {
-    let start = behind_last(rule, place, b'\n', b'\n');
+    let start = end_of_last(rule, place, b'\n', b'\n');
     let stop = mark_at(rule, place, b'\n');
     let line_end = append_shown(text, at, &rule[start..stop]);
     let below = append(text, line_end, b"\n");

@@ -1,7 +1,7 @@
 // A name looked up in a table: by its index, or by a look at each entry.
 ghost use mathlib.Core.Path.{_≡_};
 ghost use Prim.Native.Nat.{_≤_, _<_};
-ghost use Rattle.store_table.specs.Stores.{Laid, countIn, entriesIn};
+ghost use Rattle.store_table.specs.Stores.{TableInBounds, countIn, entriesIn};
 ghost use Rattle.store_table.specs.Inner.Index.{Finds, hashOf, Indexed};
 use name_hash::hash_of;
 use store_table::Found;
@@ -9,11 +9,11 @@ use store_table::count_of;
 use store_table::length_at;
 use store_table::names_start;
 use store_table::same_name;
-use store_table::wide;
+use store_table::to_usize;
 
 // The first entry of this name among the first `first`, by a look at each.
 pub fn position(name: &[u8], s: &[u8], first: usize) -> Found
-    requires { ⌜ Laid (now s) × (first ≤ countIn (now s)) ⌝ }
+    requires { ⌜ TableInBounds (now s) × (first ≤ countIn (now s)) ⌝ }
     ensures { λ r. ⌜ Finds (now (name .entry)) (entriesIn (now (s .entry))) first r ⌝ }
 {
     let count = count_of(s);
@@ -39,10 +39,10 @@ pub fn find_by(
     starts: &[u16; 64],
     slots: &[u8; 512],
 ) -> Found
-    requires { ⌜ (hash ≡ hashOf (now name)) × ((hash < 512) × (Laid (now s) × ((first ≤ countIn (now s)) × Indexed (now s) first (now starts) (now slots)))) ⌝ }
+    requires { ⌜ (hash ≡ hashOf (now name)) × ((hash < 512) × (TableInBounds (now s) × ((first ≤ countIn (now s)) × Indexed (now s) first (now starts) (now slots)))) ⌝ }
     ensures { λ r. ⌜ Finds (now (name .entry)) (entriesIn (now (s .entry))) first r ⌝ }
 {
-    let slot = wide(slots[hash]);
+    let slot = to_usize(slots[hash]);
     if slot == 0 {
         return Found::No;
     }
@@ -57,7 +57,7 @@ pub fn find_by(
 
 // An entry of this name in an indexed table.
 pub fn find(name: &[u8], s: &[u8], starts: &[u16; 64], slots: &[u8; 512]) -> Found
-    requires { ⌜ Laid (now s) × Indexed (now s) (countIn (now s)) (now starts) (now slots) ⌝ }
+    requires { ⌜ TableInBounds (now s) × Indexed (now s) (countIn (now s)) (now starts) (now slots) ⌝ }
     ensures { λ r. ⌜ Finds (now (name .entry)) (entriesIn (now (s .entry))) (countIn (now (s .entry))) r ⌝ }
 {
     find_by(name, hash_of(name), s, count_of(s), starts, slots)

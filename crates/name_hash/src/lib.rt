@@ -2,8 +2,8 @@
 ghost use mathlib.Core.Path.{_≡_};
 ghost use Prim.Native.Nat.{_<_};
 ghost use Rattle.store_table.specs.Inner.Index.{keyOf, hashOf};
-use little_endian::le4;
-use little_endian::le8;
+use little_endian::read_u32;
+use little_endian::read_u64;
 
 // A number made of a name's first and last bytes.
 fn key_of(name: &[u8]) -> u64
@@ -11,10 +11,10 @@ fn key_of(name: &[u8]) -> u64
 {
     let n = name.len();
     if 8 <= n {
-        return le8(name, 0) / 2 + le8(name, n - 8) / 2;
+        return read_u64(name, 0) / 2 + read_u64(name, n - 8) / 2;
     }
     if 4 <= n {
-        return le4(name, 0) + 65536 * le4(name, n - 4);
+        return read_u32(name, 0) + 65536 * read_u32(name, n - 4);
     }
     if 1 <= n {
         return name[0] as u64 + 256 * (name[n / 2] as u64) + 65536 * (name[n - 1] as u64);

@@ -18,15 +18,15 @@ use grammar::test_kind;
 use refusals::Refusal;
 
 // Where the text goes on, and how many nodes and name bytes stand; or a refusal.
-pub enum Reach {
+pub enum ParseEnd {
     Done { next: usize, n: usize, m: usize },
     Refused(Refusal),
 }
 
-pub fn refuse(number: u8, place: usize) -> Reach
-    ensures { λ r. ⌜ r ≡ Reach.Refused (refusal number place) ⌝ }
+pub fn refuse(number: u8, place: usize) -> ParseEnd
+    ensures { λ r. ⌜ r ≡ ParseEnd.Refused (refusal number place) ⌝ }
 {
-    Reach::Refused(Refusal { number, place })
+    ParseEnd::Refused(Refusal { number, place })
 }
 
 // Writes node n: its kind, how many nodes it counts, its argument.
@@ -63,7 +63,7 @@ pub fn push_name(
     names: &mut [u8],
     n: usize,
     m: usize,
-) -> Reach
+) -> ParseEnd
     requires { ⌜ NameRoom (now text) start end n m (arrays (now tags) (now args) (now names)) ⌝ }
     ensures { λ r. ⌜ Written (named (part (now (text .entry)) start end)) next n m (arrays (now (tags .entry)) (now (args .entry)) (now (names .entry))) (arrays (now (tags .exit)) (now (args .exit)) (now (names .exit))) r ⌝ }
 {
@@ -77,7 +77,7 @@ pub fn push_name(
         1,
         (m as u64) * 65536 + (size as u64),
     );
-    Reach::Done {
+    ParseEnd::Done {
         next,
         n: n + 1,
         m: m + size,
@@ -92,12 +92,12 @@ pub fn push_test(
     args: &mut [u64],
     n: usize,
     m: usize,
-) -> Reach
+) -> ParseEnd
     requires { ⌜ (n < length (now tags)) × (n < length (now args)) ⌝ }
     ensures { λ r. ⌜ ((w : List ℕ) → Written (leafOf test) next n m (arrays (now (tags .entry)) (now (args .entry)) w) (arrays (now (tags .exit)) (now (args .exit)) w) r) ⌝ }
 {
     push(tags, args, n, test_kind(test), 1, test_arg(test));
-    Reach::Done { next, n: n + 1, m }
+    ParseEnd::Done { next, n: n + 1, m }
 }
 
 // Writes a combinator's node after the first n, over those from `first` on, and answers how many there are then.

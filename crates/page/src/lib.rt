@@ -1,7 +1,7 @@
 // The page that `rulejudge` prints of a rule's text and of stores given as arguments.
 ghost use Prim.Native.Nat.{_+_, _≤_};
 ghost use lib.ListN.{length};
-ghost use Rattle.slices.specs.Written.{Put};
+ghost use Rattle.slices.specs.Written.{WrittenAt};
 ghost use Rattle.page.specs.Page.{faultText, argumentLine, pageOf};
 use args_table::table_of;
 use decimal::digits::append_digits;
@@ -18,7 +18,7 @@ pub const PAGE_BYTES: usize = 32_768;
 // What is wrong with an argument.
 fn append_fault(page: &mut [u8], at: usize, fault: Fault) -> usize
     requires { ⌜ at + 64 ≤ length (now page) ⌝ }
-    ensures { λ r. ⌜ Put (now (page .entry)) (now (page .exit)) at r (faultText fault) ⌝ }
+    ensures { λ r. ⌜ WrittenAt (now (page .entry)) (now (page .exit)) at r (faultText fault) ⌝ }
 {
     match fault {
         Fault::NoColon => append(page, at, b"no colon; a store is given as name:mode"),
@@ -35,7 +35,7 @@ fn append_fault(page: &mut [u8], at: usize, fault: Fault) -> usize
 // The line of an argument that is wrong.
 fn append_argument(page: &mut [u8], index: usize, fault: Fault) -> usize
     requires { ⌜ 128 ≤ length (now page) ⌝ }
-    ensures { λ r. ⌜ Put (now (page .entry)) (now (page .exit)) 0 r (argumentLine index fault) ⌝ }
+    ensures { λ r. ⌜ WrittenAt (now (page .entry)) (now (page .exit)) 0 r (argumentLine index fault) ⌝ }
 {
     let word_end = append(page, 0, b"argument ");
     let number_end = append_digits(page, word_end, index as u64);
@@ -47,7 +47,7 @@ fn append_argument(page: &mut [u8], index: usize, fault: Fault) -> usize
 // Judges a text for the stores that arguments give, each with a 0 behind it, and prints the verdict and what it means. Answers how
 // many bytes were written to the front of the page.
 pub fn report(text: &[u8], args: &[u8], page: &mut [u8]) -> usize
-    ensures { λ r. ⌜ Put (now (page .entry)) (now (page .exit)) 0 r (pageOf (now (text .entry)) (now (args .entry)) (now (page .entry))) ⌝ }
+    ensures { λ r. ⌜ WrittenAt (now (page .entry)) (now (page .exit)) 0 r (pageOf (now (text .entry)) (now (args .entry)) (now (page .entry))) ⌝ }
 {
     if page.len() < PAGE_BYTES {
         return 0;

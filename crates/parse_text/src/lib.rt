@@ -1,7 +1,7 @@
 // A whole text parsed into three arrays: the tests of the text, the rule, and what is left after it.
 ghost use Rattle.nodes.specs.Inner.Parses.{arrays};
 ghost use Rattle.parse_text.specs.Inner.Parsing.{Ready, Ended, Finished};
-use nodes::Reach;
+use nodes::ParseEnd;
 use nodes::refuse;
 use parser::parse_or;
 use scan::foreign_at;
@@ -19,19 +19,19 @@ fn parse_whole(
     args: &mut [u64],
     names: &mut [u8],
     class: &[u8; 256],
-) -> Reach
+) -> ParseEnd
     requires { ⌜ Ready (now class) (now text) (arrays (now tags) (now args) (now names)) ⌝ }
     ensures { λ r. ⌜ Ended (now (text .entry)) (arrays (now (tags .exit)) (now (args .exit)) (now (names .exit))) r ⌝ }
 {
     let whole = parse_or(text, 0, 0, tags, args, names, 0, 0, class);
-    let Reach::Done { next, n, m } = whole else {
+    let ParseEnd::Done { next, n, m } = whole else {
         return whole;
     };
     let rest = token_from(text, next, class);
     let Token::End { place: _ } = rest else {
         return refuse(refusals::TRAILING_TOKEN, place_of(rest));
     };
-    Reach::Done { next, n, m }
+    ParseEnd::Done { next, n, m }
 }
 
 // Reads a text into three arrays that have room for it: 3, then the parse. Where that refuses, the whole text is tested for 4 to
@@ -42,7 +42,7 @@ pub fn parse_text(
     args: &mut [u64],
     names: &mut [u8],
     class: &[u8; 256],
-) -> Reach
+) -> ParseEnd
     requires { ⌜ Ready (now class) (now text) (arrays (now tags) (now args) (now names)) ⌝ }
     ensures { λ r. ⌜ Finished (now (text .entry)) (arrays (now (tags .exit)) (now (args .exit)) (now (names .exit))) r ⌝ }
 {
@@ -51,7 +51,7 @@ pub fn parse_text(
         return refuse(refusals::FOREIGN_BYTE, p);
     }
     let whole = parse_whole(text, tags, args, names, class);
-    if let Reach::Done {
+    if let ParseEnd::Done {
         next: _,
         n: _,
         m: _,
@@ -59,7 +59,7 @@ pub fn parse_text(
         return whole;
     }
     if let Scanned::Refused(f) = scan(text, class) {
-        return Reach::Refused(f);
+        return ParseEnd::Refused(f);
     }
     whole
 }

@@ -13,12 +13,12 @@ use endings::first_argument;
 use endings::next_argument;
 use endings::next_operand;
 use grammar::Combinator;
-use grammar::Head;
-use heads::head_at;
-use nodes::Reach;
+use grammar::PrimaryStart;
+use nodes::ParseEnd;
 use nodes::push_combinator;
 use nodes::push_name;
 use nodes::push_test;
+use primary_start::primary_start_at;
 
 // or: and-expressions, joined by or-signs.
 pub fn parse_or(
@@ -31,12 +31,12 @@ pub fn parse_or(
     n: usize,
     m: usize,
     class: &[u8; 256],
-) -> Reach
+) -> ParseEnd
     requires { ⌜ Before (now class) (now text) at depth n m (arrays (now tags) (now args) (now names)) ⌝ }
     ensures { λ r. ⌜ Parsed (λ (f : ℕ). orIn f (now (text .entry)) depth (tokensFrom (now (text .entry)) at)) (3 * left (now (text .entry)) at + 3) (now (text .entry)) at n m (arrays (now (tags .entry)) (now (args .entry)) (now (names .entry))) (arrays (now (tags .exit)) (now (args .exit)) (now (names .exit))) r ⌝ }
 {
     let first = parse_and(text, at, depth, tags, args, names, n, m, class);
-    let Reach::Done {
+    let ParseEnd::Done {
         next: e,
         n: k,
         m: q,
@@ -57,14 +57,14 @@ pub fn parse_or(
             image::ANY,
             class,
         ) else {
-            return Reach::Done {
+            return ParseEnd::Done {
                 next: at1,
                 n: n1,
                 m: m1,
             };
         };
         let right = parse_and(text, next, depth, tags, args, names, stay, m1, class);
-        let Reach::Done {
+        let ParseEnd::Done {
             next: e2,
             n: n2,
             m: m2,
@@ -89,12 +89,12 @@ pub fn parse_and(
     n: usize,
     m: usize,
     class: &[u8; 256],
-) -> Reach
+) -> ParseEnd
     requires { ⌜ Before (now class) (now text) at depth n m (arrays (now tags) (now args) (now names)) ⌝ }
     ensures { λ r. ⌜ Parsed (λ (f : ℕ). andIn f (now (text .entry)) depth (tokensFrom (now (text .entry)) at)) (3 * left (now (text .entry)) at + 2) (now (text .entry)) at n m (arrays (now (tags .entry)) (now (args .entry)) (now (names .entry))) (arrays (now (tags .exit)) (now (args .exit)) (now (names .exit))) r ⌝ }
 {
     let first = parse_primary(text, at, depth, tags, args, names, n, m, class);
-    let Reach::Done {
+    let ParseEnd::Done {
         next: e,
         n: k,
         m: q,
@@ -115,14 +115,14 @@ pub fn parse_and(
             image::ALL,
             class,
         ) else {
-            return Reach::Done {
+            return ParseEnd::Done {
                 next: at1,
                 n: n1,
                 m: m1,
             };
         };
         let right = parse_primary(text, next, depth, tags, args, names, stay, m1, class);
-        let Reach::Done {
+        let ParseEnd::Done {
             next: e2,
             n: n2,
             m: m2,
@@ -147,13 +147,13 @@ pub fn parse_primary(
     n: usize,
     m: usize,
     class: &[u8; 256],
-) -> Reach
+) -> ParseEnd
     requires { ⌜ Before (now class) (now text) at depth n m (arrays (now tags) (now args) (now names)) ⌝ }
     ensures { λ r. ⌜ Parsed (λ (f : ℕ). primaryIn f (now (text .entry)) depth (tokensFrom (now (text .entry)) at)) (3 * left (now (text .entry)) at + 1) (now (text .entry)) at n m (arrays (now (tags .entry)) (now (args .entry)) (now (names .entry))) (arrays (now (tags .exit)) (now (args .exit)) (now (names .exit))) r ⌝ }
 {
-    match head_at(text, at, depth, class) {
-        Head::Refused(f) => Reach::Refused(f),
-        Head::Name { start, end, next } => push_name(
+    match primary_start_at(text, at, depth, class) {
+        PrimaryStart::Refused(f) => ParseEnd::Refused(f),
+        PrimaryStart::Name { start, end, next } => push_name(
             text,
             start,
             end,
@@ -164,19 +164,19 @@ pub fn parse_primary(
             n,
             m,
         ),
-        Head::Leaf { test, next } => push_test(test, next, tags, args, n, m),
-        Head::Group { next } => {
+        PrimaryStart::Leaf { test, next } => push_test(test, next, tags, args, n, m),
+        PrimaryStart::Group { next } => {
             let inner = parse_or(text, next, depth + 1, tags, args, names, n, m, class);
             match inner {
-                Reach::Refused(f) => Reach::Refused(f),
-                Reach::Done {
+                ParseEnd::Refused(f) => ParseEnd::Refused(f),
+                ParseEnd::Done {
                     next: e,
                     n: n1,
                     m: m1,
                 } => close_group(text, e, n1, m1, class),
             }
         }
-        Head::List {
+        PrimaryStart::List {
             combinator,
             place,
             next,

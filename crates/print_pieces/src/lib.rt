@@ -2,7 +2,7 @@
 ghost use mathlib.Core.Path.{_≡_};
 ghost use Prim.Native.Nat.{_≤_};
 ghost use lib.ListN.{length};
-ghost use Rattle.slices.specs.Written.{Put};
+ghost use Rattle.slices.specs.Written.{WrittenAt};
 ghost use Rattle.image.specs.Kinds.{namedKind};
 ghost use Rattle.image.specs.Inner.Subtree.{NameInside};
 ghost use Rattle.print_text.specs.Inner.Pieces.{leafIn, openingOf, behindOf, backOf, frontOf};
@@ -10,24 +10,24 @@ use decimal::digits::put_digits;
 use duration_text::format_duration;
 use image::name_of;
 use print_size::is_bracketed;
-use slices::put;
+use slices::prepend;
 
 // Puts a leaf's text so that it ends at a position, and answers where it begins; so do the functions below with other pieces.
 pub fn put_leaf(image: &[u8], n: usize, kind: u32, arg: u64, text: &mut [u8], end: usize) -> usize
     requires { ⌜ (kind ≡ namedKind → NameInside (now image) n arg) × (length (leafIn (now image) n kind arg) ≤ end) × (end ≤ length (now text)) ⌝ }
-    ensures { λ r. ⌜ Put (now (text .entry)) (now (text .exit)) r end (leafIn (now (image .entry)) n kind arg) ⌝ }
+    ensures { λ r. ⌜ WrittenAt (now (text .entry)) (now (text .exit)) r end (leafIn (now (image .entry)) n kind arg) ⌝ }
 {
     match kind {
-        image::NAMED => put(text, end, name_of(image, n, arg)),
+        image::NAMED => prepend(text, end, name_of(image, n, arg)),
         image::OLDER_THAN => {
-            let closed = put(text, end, b")");
+            let closed = prepend(text, end, b")");
             let at = format_duration(text, closed, arg);
-            put(text, at, b"older_than(")
+            prepend(text, at, b"older_than(")
         }
         image::READABLE => {
-            let closed = put(text, end, b")");
+            let closed = prepend(text, end, b")");
             let at = put_digits(text, closed, arg);
-            put(text, at, b"readable(")
+            prepend(text, at, b"readable(")
         }
         _ => end,
     }
@@ -36,13 +36,13 @@ pub fn put_leaf(image: &[u8], n: usize, kind: u32, arg: u64, text: &mut [u8], en
 // What stands before a combinator's children.
 pub fn put_opening(kind: u32, arg: u64, text: &mut [u8], end: usize) -> usize
     requires { ⌜ (length (openingOf kind arg) ≤ end) × (end ≤ length (now text)) ⌝ }
-    ensures { λ r. ⌜ Put (now (text .entry)) (now (text .exit)) r end (openingOf kind arg) ⌝ }
+    ensures { λ r. ⌜ WrittenAt (now (text .entry)) (now (text .exit)) r end (openingOf kind arg) ⌝ }
 {
     match kind {
         image::AT_LEAST => {
-            let comma = put(text, end, b", ");
+            let comma = prepend(text, end, b", ");
             let at = put_digits(text, comma, arg);
-            put(text, at, b"at_least(")
+            prepend(text, at, b"at_least(")
         }
         _ => end,
     }
@@ -51,18 +51,18 @@ pub fn put_opening(kind: u32, arg: u64, text: &mut [u8], end: usize) -> usize
 // What stands behind a child that is the last, or is not.
 fn put_behind(kind: u32, last: bool, text: &mut [u8], end: usize) -> usize
     requires { ⌜ (length (behindOf kind last) ≤ end) × (end ≤ length (now text)) ⌝ }
-    ensures { λ r. ⌜ Put (now (text .entry)) (now (text .exit)) r end (behindOf kind last) ⌝ }
+    ensures { λ r. ⌜ WrittenAt (now (text .entry)) (now (text .exit)) r end (behindOf kind last) ⌝ }
 {
     if last {
         match kind {
-            image::AT_LEAST => put(text, end, b")"),
+            image::AT_LEAST => prepend(text, end, b")"),
             _ => end,
         }
     } else {
         match kind {
-            image::AT_LEAST => put(text, end, b", "),
-            image::ALL => put(text, end, b" && "),
-            image::ANY => put(text, end, b" || "),
+            image::AT_LEAST => prepend(text, end, b", "),
+            image::ALL => prepend(text, end, b" && "),
+            image::ANY => prepend(text, end, b" || "),
             _ => end,
         }
     }
@@ -71,11 +71,11 @@ fn put_behind(kind: u32, last: bool, text: &mut [u8], end: usize) -> usize
 // What stands behind a child, its closing bracket included.
 pub fn put_back(kind: u32, child: u32, last: bool, text: &mut [u8], end: usize) -> usize
     requires { ⌜ (length (backOf kind child last) ≤ end) × (end ≤ length (now text)) ⌝ }
-    ensures { λ r. ⌜ Put (now (text .entry)) (now (text .exit)) r end (backOf kind child last) ⌝ }
+    ensures { λ r. ⌜ WrittenAt (now (text .entry)) (now (text .exit)) r end (backOf kind child last) ⌝ }
 {
     let at = put_behind(kind, last, text, end);
     if is_bracketed(kind, child) {
-        return put(text, at, b")");
+        return prepend(text, at, b")");
     }
     at
 }
@@ -83,10 +83,10 @@ pub fn put_back(kind: u32, child: u32, last: bool, text: &mut [u8], end: usize) 
 // The opening bracket of a child that has one.
 pub fn put_front(kind: u32, child: u32, text: &mut [u8], end: usize) -> usize
     requires { ⌜ (length (frontOf kind child) ≤ end) × (end ≤ length (now text)) ⌝ }
-    ensures { λ r. ⌜ Put (now (text .entry)) (now (text .exit)) r end (frontOf kind child) ⌝ }
+    ensures { λ r. ⌜ WrittenAt (now (text .entry)) (now (text .exit)) r end (frontOf kind child) ⌝ }
 {
     if is_bracketed(kind, child) {
-        return put(text, end, b"(");
+        return prepend(text, end, b"(");
     }
     end
 }

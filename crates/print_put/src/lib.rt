@@ -2,12 +2,12 @@
 ghost use mathlib.Core.Path.{_≡_};
 ghost use Prim.Native.Nat.{_≤_};
 ghost use lib.ListN.{length};
-ghost use Rattle.slices.specs.Written.{Put};
+ghost use Rattle.slices.specs.Written.{WrittenAt};
 ghost use Rattle.rules.specs.Rule.{Rule};
 ghost use Rattle.rules.specs.Rule.{size as sizeOf};
 ghost use Rattle.image.specs.Decode.{cellAt};
-ghost use Rattle.image.specs.Inner.Standing.{Stands};
-ghost use Rattle.image.specs.Inner.Subtree.{Inside};
+ghost use Rattle.image.specs.Inner.Standing.{EncodedAt};
+ghost use Rattle.image.specs.Inner.Subtree.{ValidSubtree};
 ghost use Rattle.print_text.specs.Print.{textOf};
 use image::is_leaf;
 use image::node_at;
@@ -25,8 +25,8 @@ pub fn put_rule(
     text: &mut [u8],
     end: usize,
 ) -> usize
-    requires { ⌜ Inside (now image) n from size × ((ρ : Rule) → sizeOf ρ ≡ size → Stands ρ (cellAt (now image) n) from → length (textOf ρ) ≤ end) × (end ≤ length (now text)) ⌝ }
-    ensures { λ r. ⌜ ((ρ : Rule) → sizeOf ρ ≡ size → Stands ρ (cellAt (now (image .entry)) n) from → Put (now (text .entry)) (now (text .exit)) r end (textOf ρ)) ⌝ }
+    requires { ⌜ ValidSubtree (now image) n from size × ((ρ : Rule) → sizeOf ρ ≡ size → EncodedAt ρ (cellAt (now image) n) from → length (textOf ρ) ≤ end) × (end ≤ length (now text)) ⌝ }
+    ensures { λ r. ⌜ ((ρ : Rule) → sizeOf ρ ≡ size → EncodedAt ρ (cellAt (now (image .entry)) n) from → WrittenAt (now (text .entry)) (now (text .exit)) r end (textOf ρ)) ⌝ }
 {
     let at = from + size - 1;
     let root = node_at(image, n, at);

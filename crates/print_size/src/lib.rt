@@ -6,8 +6,8 @@ ghost use Rattle.rules.specs.Rule.{Rule};
 ghost use Rattle.rules.specs.Rule.{size as sizeOf};
 ghost use Rattle.image.specs.Kinds.{namedKind};
 ghost use Rattle.image.specs.Decode.{cellAt};
-ghost use Rattle.image.specs.Inner.Standing.{Stands};
-ghost use Rattle.image.specs.Inner.Subtree.{Inside, NameInside};
+ghost use Rattle.image.specs.Inner.Standing.{EncodedAt};
+ghost use Rattle.image.specs.Inner.Subtree.{ValidSubtree, NameInside};
 ghost use Rattle.print_text.specs.Inner.Pieces.{bracketedOf, leafIn, openingOf, behindOf, frontOf, backOf};
 ghost use Rattle.print_text.specs.Print.{textOf};
 use decimal::digits::digit_count;
@@ -77,8 +77,8 @@ fn around_size(kind: u32, child: u32, last: bool) -> usize
 
 // The bytes of the rule whose nodes are the `size` from `from` on: the size falls at each call.
 pub fn text_size(image: &[u8], n: usize, from: usize, size: usize) -> usize
-    requires { ⌜ Inside (now image) n from size × (n ≤ 2048) ⌝ }
-    ensures { λ r. ⌜ ((ρ : Rule) → sizeOf ρ ≡ size → Stands ρ (cellAt (now (image .entry)) n) from → r ≡ length (textOf ρ)) ⌝ }
+    requires { ⌜ ValidSubtree (now image) n from size × (n ≤ 2048) ⌝ }
+    ensures { λ r. ⌜ ((ρ : Rule) → sizeOf ρ ≡ size → EncodedAt ρ (cellAt (now (image .entry)) n) from → r ≡ length (textOf ρ)) ⌝ }
 {
     let at = from + size - 1;
     let root = node_at(image, n, at);

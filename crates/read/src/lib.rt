@@ -7,7 +7,7 @@ ghost use Rattle.grammar.specs.Reading.{readOf};
 ghost use Rattle.nodes.specs.Inner.Parses.{arrays};
 ghost use Rattle.parse_text.specs.Inner.Parsing.{Ready};
 ghost use Rattle.read.specs.Outcome.{outcome, readingOf, readInto};
-use nodes::Reach;
+use nodes::ParseEnd;
 use parse_text::parse_text;
 use refusals::Refusal;
 
@@ -36,10 +36,10 @@ fn read_by(
     ensures { λ r. ⌜ outcome r (now (image .exit)) ≡ readingOf (readOf (now (text .entry))) (now (image .entry)) ⌝ }
 {
     match parse_text(text, tags, args, names, class) {
-        Reach::Done { next: _, n, m } => {
+        ParseEnd::Done { next: _, n, m } => {
             Reading::Read(image::write_image(image, tags, args, names, n, m))
         }
-        Reach::Refused(f) => Reading::Refused(f),
+        ParseEnd::Refused(f) => Reading::Refused(f),
     }
 }
 

@@ -1,7 +1,7 @@
 // The line that `ruleread` prints.
 ghost use Prim.Native.Nat.{_+_, _≤_};
 ghost use lib.ListN.{length};
-ghost use Rattle.slices.specs.Written.{Put};
+ghost use Rattle.slices.specs.Written.{WrittenAt};
 ghost use Rattle.grammar.specs.Reading.{readOf};
 ghost use Rattle.read_line.specs.Reading.{refusalLine, readLine};
 use image::name_byte_count;
@@ -14,7 +14,7 @@ use refusals::Refusal;
 // A refusal's number and place.
 pub fn append_refusal(line: &mut [u8], at: usize, f: Refusal) -> usize
     requires { ⌜ at + 45 ≤ length (now line) ⌝ }
-    ensures { λ r. ⌜ Put (now (line .entry)) (now (line .exit)) at r (refusalLine f) ⌝ }
+    ensures { λ r. ⌜ WrittenAt (now (line .entry)) (now (line .exit)) at r (refusalLine f) ⌝ }
 {
     append_numbers(line, at, b"no ", f.number as u64, f.place as u64)
 }
@@ -22,7 +22,7 @@ pub fn append_refusal(line: &mut [u8], at: usize, f: Refusal) -> usize
 // What a text reads as: the numbers of nodes and of name bytes, or the refusal.
 pub fn reading_line(line: &mut [u8], text: &[u8]) -> usize
     requires { ⌜ 45 ≤ length (now line) ⌝ }
-    ensures { λ r. ⌜ Put (now (line .entry)) (now (line .exit)) 0 r (readLine (readOf (now (text .entry)))) ⌝ }
+    ensures { λ r. ⌜ WrittenAt (now (line .entry)) (now (line .exit)) 0 r (readLine (readOf (now (text .entry)))) ⌝ }
 {
     let mut image = [0u8; IMAGE_BYTES];
     match read::read(text, &mut image) {

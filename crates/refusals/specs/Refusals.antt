@@ -37,8 +37,8 @@ abbrev pub noExpression : ℕ
 noExpression = 7
 
 -- `)` expected
-abbrev pub openBracket : ℕ
-openBracket = 8
+abbrev pub bracketExpected : ℕ
+bracketExpected = 8
 
 -- tokens left after the rule
 abbrev pub trailingToken : ℕ
@@ -118,7 +118,7 @@ table =
     row openQuote "open quote" "this quote is not closed" ∷
     row strayCharacter "stray character" "nothing in a rule begins with this character" ∷
     row noExpression "no expression" "an expression is expected here" ∷
-    row openBracket "open bracket" "a `)` is expected here" ∷
+    row bracketExpected "open bracket" "a `)` is expected here" ∷
     row trailingToken "trailing token" "the rule is complete before this" ∷
     row unknownFunction "unknown function" "there is no function of this name" ∷
     row missingArgument "missing argument" "a count, a duration or a comma is expected here" ∷

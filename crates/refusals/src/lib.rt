@@ -30,7 +30,7 @@ pub const STRAY_CHARACTER: u8 = 6;
 pub const NO_EXPRESSION: u8 = 7;
 
 // open bracket: `)` expected.
-pub const OPEN_BRACKET: u8 = 8;
+pub const BRACKET_EXPECTED: u8 = 8;
 
 // trailing token: tokens left after the rule.
 pub const TRAILING_TOKEN: u8 = 9;
@@ -118,7 +118,7 @@ const TABLE: [Row; 22] = [
         meaning: *b"an expression is expected here                                  ",
     },
     Row {
-        number: OPEN_BRACKET,
+        number: BRACKET_EXPECTED,
         word: *b"open bracket      ",
         meaning: *b"a `)` is expected here                                          ",
     },

@@ -1,8 +1,8 @@
 // What a person is told of a verdict on a text.
 ghost use Prim.Native.Nat.{_+_, _≤_};
 ghost use lib.ListN.{length};
-ghost use Rattle.slices.specs.Written.{Put};
-ghost use Rattle.store_table.specs.Stores.{Laid, entriesIn};
+ghost use Rattle.slices.specs.Written.{WrittenAt};
+ghost use Rattle.store_table.specs.Stores.{TableInBounds, entriesIn};
 ghost use Rattle.details.specs.Report.{verdictLine, passLine, verdictText};
 ghost use Rattle.details.specs.Inner.Room.{Ready};
 use details::append_detail;
@@ -15,7 +15,7 @@ use verdict::Verdict;
 // The first line.
 fn append_verdict(page: &mut [u8], at: usize, v: Verdict) -> usize
     requires { ⌜ at + 45 ≤ length (now page) ⌝ }
-    ensures { λ r. ⌜ Put (now (page .entry)) (now (page .exit)) at r (verdictLine v) ⌝ }
+    ensures { λ r. ⌜ WrittenAt (now (page .entry)) (now (page .exit)) at r (verdictLine v) ⌝ }
 {
     match v {
         Verdict::Pass => append(page, at, b"pass\n"),
@@ -25,8 +25,8 @@ fn append_verdict(page: &mut [u8], at: usize, v: Verdict) -> usize
 
 // What a pass means: nothing was checked where there are no stores.
 fn append_pass(page: &mut [u8], at: usize, stores: &[u8]) -> usize
-    requires { ⌜ Laid (now stores) × (at + 72 ≤ length (now page)) ⌝ }
-    ensures { λ r. ⌜ Put (now (page .entry)) (now (page .exit)) at r (passLine (entriesIn (now (stores .entry)))) ⌝ }
+    requires { ⌜ TableInBounds (now stores) × (at + 72 ≤ length (now page)) ⌝ }
+    ensures { λ r. ⌜ WrittenAt (now (page .entry)) (now (page .exit)) at r (passLine (entriesIn (now (stores .entry)))) ⌝ }
 {
     if count_of(stores) < 1 {
         return append(
@@ -45,7 +45,7 @@ fn append_pass(page: &mut [u8], at: usize, stores: &[u8]) -> usize
 // A verdict on a text for these stores, and what it means.
 pub fn append_judged(page: &mut [u8], text: &[u8], stores: &[u8], v: Verdict) -> usize
     requires { ⌜ Ready (now page) (now text) (now stores) v ⌝ }
-    ensures { λ r. ⌜ Put (now (page .entry)) (now (page .exit)) 0 r (verdictText (now (text .entry)) (entriesIn (now (stores .entry))) v) ⌝ }
+    ensures { λ r. ⌜ WrittenAt (now (page .entry)) (now (page .exit)) 0 r (verdictText (now (text .entry)) (entriesIn (now (stores .entry))) v) ⌝ }
 {
     let line_end = append_verdict(page, 0, v);
     match v {

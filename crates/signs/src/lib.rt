@@ -3,13 +3,13 @@ ghost use mathlib.Core.Path.{_≡_};
 ghost use Prim.Native.Nat.{_≤_};
 ghost use Rattle.classes.specs.Class.{faults, openBracket, comma, ampersand, bar};
 ghost use Rattle.tokens.specs.Token.{nextOf, placeOf, tokenAt};
-ghost use Rattle.tokens.specs.Inner.Bounds.{behind};
+ghost use Rattle.tokens.specs.Inner.Bounds.{nextOfClass};
 use classes::class_at;
 use classes::class_end;
 use tokens::Next;
 use tokens::Token;
-use tokens::bare_at;
 use tokens::doubled_at;
+use tokens::unquoted_at;
 
 // Where the text goes on after a token.
 pub fn next_of(t: Token) -> Next
@@ -58,7 +58,7 @@ pub fn place_of(t: Token) -> usize
 // Where the text goes on after a bracket or a comma of this class, if that is the next token.
 pub fn bracket_at(text: &[u8], at: usize, k: u8, class: &[u8; 256]) -> Next
     requires { ⌜ (faults (now class) ≡ 0) × ((openBracket ≤ k) × (k ≤ comma)) ⌝ }
-    ensures { λ r. ⌜ r ≡ behind k (tokenAt (now (text .entry)) at) ⌝ }
+    ensures { λ r. ⌜ r ≡ nextOfClass k (tokenAt (now (text .entry)) at) ⌝ }
 {
     let place = class_end(text, at, classes::BLANK, class);
     if text.len() <= place {
@@ -73,7 +73,7 @@ pub fn bracket_at(text: &[u8], at: usize, k: u8, class: &[u8; 256]) -> Next
 // Where the text goes on after a token, if it is the sign of this class.
 fn next_if(t: Token, k: u8) -> Next
     requires { ⌜ (ampersand ≤ k) × (k ≤ bar) ⌝ }
-    ensures { λ r. ⌜ r ≡ behind k t ⌝ }
+    ensures { λ r. ⌜ r ≡ nextOfClass k t ⌝ }
 {
     match t {
         Token::And { place: _, next } => {
@@ -95,7 +95,7 @@ fn next_if(t: Token, k: u8) -> Next
 // Where the text goes on after the sign of this class, if that is the next token: `&&` or `and`, `||` or `or`.
 pub fn sign_at(text: &[u8], at: usize, k: u8, class: &[u8; 256]) -> Next
     requires { ⌜ (faults (now class) ≡ 0) × ((ampersand ≤ k) × (k ≤ bar)) ⌝ }
-    ensures { λ r. ⌜ r ≡ behind k (tokenAt (now (text .entry)) at) ⌝ }
+    ensures { λ r. ⌜ r ≡ nextOfClass k (tokenAt (now (text .entry)) at) ⌝ }
 {
     let place = class_end(text, at, classes::BLANK, class);
     if text.len() <= place {
@@ -109,7 +109,7 @@ pub fn sign_at(text: &[u8], at: usize, k: u8, class: &[u8; 256]) -> Next
         return Next::Off;
     }
     if found == classes::WORD {
-        return next_if(bare_at(text, place, class), k);
+        return next_if(unquoted_at(text, place, class), k);
     }
     Next::Off
 }

@@ -10,6 +10,6 @@ largest [] = 0
 largest (b ∷ s) = max b (largest s)
 
 -- behind the last of the first i bytes that passes a test, or 0
-unfoldable pub behindLast : (ℕ → Bool) → List ℕ → ℕ → ℕ
-behindLast p s zero = 0
-behindLast p s (suc i) = let before = behindLast p s i in cond (p (getD s i 0)) (suc i) before
+unfoldable pub endOfLast : (ℕ → Bool) → List ℕ → ℕ → ℕ
+endOfLast p s zero = 0
+endOfLast p s (suc i) = let before = endOfLast p s i in cond (p (getD s i 0)) (suc i) before

@@ -9,6 +9,6 @@ unfoldable pub written : List ℕ → ℕ → List ℕ → List ℕ
 written s at bs = take at s ++ (bs ++ drop (at + length bs) s)
 
 -- a text before and after bytes were put into it, from `start` up to `end`
-pub record Put (before after : List ℕ) (start end : ℕ) (bs : List ℕ) : Type 0 where
+pub record WrittenAt (before after : List ℕ) (start end : ℕ) (bs : List ℕ) : Type 0 where
   pub ends : start + length bs ≡ end
   pub text : after ≡ written before start bs

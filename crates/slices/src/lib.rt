@@ -3,8 +3,8 @@ ghost use mathlib.Core.Path.{_≡_};
 ghost use Prim.Native.Nat.{_≤_, _+_};
 ghost use lib.ListN.{drop, length};
 ghost use Rattle.ascii.specs.Letters.{within};
-ghost use Rattle.slices.specs.Search.{largest, behindLast};
-ghost use Rattle.slices.specs.Written.{Put};
+ghost use Rattle.slices.specs.Search.{largest, endOfLast};
+ghost use Rattle.slices.specs.Written.{WrittenAt};
 ghost use Rattle.slices.specs.Text.{runEnd, other, allAscii};
 
 // The largest byte from a position on, or 0.
@@ -23,9 +23,9 @@ pub fn largest_from(s: &[u8], at: usize) -> u8
 }
 
 // Behind the last of the first `at` bytes that is from lo up to hi, or 0.
-pub fn behind_last(s: &[u8], at: usize, lo: u8, hi: u8) -> usize
+pub fn end_of_last(s: &[u8], at: usize, lo: u8, hi: u8) -> usize
     requires { ⌜ at ≤ length (now s) ⌝ }
-    ensures { λ r. ⌜ r ≡ behindLast (within lo hi) (now (s .entry)) at ⌝ }
+    ensures { λ r. ⌜ r ≡ endOfLast (within lo hi) (now (s .entry)) at ⌝ }
 {
     let mut i = at;
     while 0 < i {
@@ -41,9 +41,9 @@ pub fn behind_last(s: &[u8], at: usize, lo: u8, hi: u8) -> usize
 }
 
 // Puts a piece so that it ends at a position, and answers where it begins.
-pub fn put(text: &mut [u8], end: usize, piece: &[u8]) -> usize
+pub fn prepend(text: &mut [u8], end: usize, piece: &[u8]) -> usize
     requires { ⌜ (length (now piece) ≤ end) × (end ≤ length (now text)) ⌝ }
-    ensures { λ r. ⌜ Put (now (text .entry)) (now (text .exit)) r end (now (piece .entry)) ⌝ }
+    ensures { λ r. ⌜ WrittenAt (now (text .entry)) (now (text .exit)) r end (now (piece .entry)) ⌝ }
 {
     let start = end - piece.len();
     let mut i = 0;
@@ -57,10 +57,10 @@ pub fn put(text: &mut [u8], end: usize, piece: &[u8]) -> usize
 // Puts a piece from a position on, and answers where it ends.
 pub fn append(text: &mut [u8], at: usize, piece: &[u8]) -> usize
     requires { ⌜ at + length (now piece) ≤ length (now text) ⌝ }
-    ensures { λ r. ⌜ Put (now (text .entry)) (now (text .exit)) at r (now (piece .entry)) ⌝ }
+    ensures { λ r. ⌜ WrittenAt (now (text .entry)) (now (text .exit)) at r (now (piece .entry)) ⌝ }
 {
     let end = at + piece.len();
-    put(text, end, piece);
+    prepend(text, end, piece);
     end
 }
 

@@ -6,7 +6,7 @@ use mathlib.Core.List.{List, [], _∷_}
 use lib.Dec.{eqb, ltb}
 use lib.ListN.{length, take, drop}
 use Rattle.slices.specs.Text.{bytes, runEnd, allAscii, other}
-use Rattle.slices.specs.Search.{behindLast}
+use Rattle.slices.specs.Search.{endOfLast}
 use Rattle.ascii.specs.Letters.{within, equal}
 use Rattle.store_table.specs.Stores.{Entry, readWrite, readOnly, writeOnly}
 use Rattle.store_args.specs.declared.Fault.{Fault}
@@ -46,7 +46,7 @@ modeTested word name =
 
 -- behind the last colon of an argument, or 0 where there is none
 abbrev pub behindColon : List ℕ → ℕ
-behindColon w = behindLast (within (code ":") (code ":")) w (length w)
+behindColon w = endOfLast (within (code ":") (code ":")) w (length w)
 
 unfoldable pub colonTested : List ℕ → ℕ → Given
 unfolding modeTested

@@ -6,7 +6,7 @@ ghost use Rattle.store_args.specs.Arguments.{named, modeTested, givenBy,
 ghost use Rattle.store_args.specs.Inner.Filling.{Is};
 use ascii::eq;
 use slices::ascii_from;
-use slices::behind_last;
+use slices::end_of_last;
 use slices::mark_at;
 use store_table::READ_ONLY;
 use store_table::READ_WRITE;
@@ -86,7 +86,7 @@ pub fn given_by(arg: &[u8]) -> Given
     if 266 < arg.len() {
         return Given::Wrong(Fault::LongName);
     }
-    let from = behind_last(arg, arg.len(), b':', b':');
+    let from = end_of_last(arg, arg.len(), b':', b':');
     if from == 0 {
         return Given::Wrong(Fault::NoColon);
     }

@@ -2,7 +2,7 @@
 ghost use mathlib.Core.Path.{_≡_};
 ghost use Prim.Native.Nat.{_+_, _<_};
 ghost use lib.ListN.{length, set};
-ghost use Rattle.store_table.specs.Stores.{Laid, countIn, entriesIn, twinOf};
+ghost use Rattle.store_table.specs.Stores.{TableInBounds, countIn, entriesIn, twinOf};
 ghost use Rattle.store_table.specs.Inner.Index.{Indexed, Blank};
 use lookup::find_by;
 use name_hash::hash_of;
@@ -23,7 +23,7 @@ fn enter(starts: &mut [u16], slots: &mut [u8], k: usize, at: usize, hash: usize)
 
 // The lowest index whose name an earlier store has; where there is none, the table is indexed.
 pub fn twin_of(stores: &[u8], starts: &mut [u16; 64], slots: &mut [u8; 512]) -> Twin
-    requires { ⌜ Laid (now stores) × Blank (now slots) ⌝ }
+    requires { ⌜ TableInBounds (now stores) × Blank (now slots) ⌝ }
     ensures { λ r. ⌜ (r ≡ twinOf (entriesIn (now (stores .entry)))) × (r ≡ Twin.No → Indexed (now (stores .entry)) (countIn (now (stores .entry))) (now (starts .exit)) (now (slots .exit))) ⌝ }
 {
     let count = count_of(stores);

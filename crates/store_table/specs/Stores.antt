@@ -128,7 +128,7 @@ abbrev pub Distinct : List Entry → Type 0
 Distinct es = (i j : ℕ) (d e : Entry) → i < j → getElem? es i ≡ some d → getElem? es j ≡ some e → d .name ≡ e .name → ⊥
 
 -- a table or a list whose names lie within it
-pub record Laid (s : List ℕ) : Type 0 where
+pub record TableInBounds (s : List ℕ) : Type 0 where
   pub arrays : namesStart (countIn s) ≤ length s
   pub names : namesStart (countIn s) + sum (lengthsIn s) ≤ length s
   pub few : countIn s ≤ 64

@@ -3,10 +3,10 @@ ghost use mathlib.Core.Path.{_≡_};
 ghost use Prim.Native.Nat.{_<_, _+_, _≤_};
 ghost use lib.ListN.{length, drop, take};
 ghost use Rattle.store_table.specs.Names.{sameName};
-ghost use Rattle.store_table.specs.Stores.{Entry, isReadable, sum, allAtMost, wellMade, isTable, isList, Laid, countIn, entriesIn, namesStart};
+ghost use Rattle.store_table.specs.Stores.{Entry, isReadable, sum, allAtMost, wellMade, isTable, isList, TableInBounds, countIn, entriesIn, namesStart};
 ghost use Rattle.store_table.specs.Inner.Index.{EntryAt, lengthAt};
-use little_endian::le2;
-use little_endian::le8;
+use little_endian::read_u16;
+use little_endian::read_u64;
 use slices::ascii_from;
 
 // Where the count, the total and the modes of a table or a list begin.
@@ -30,7 +30,7 @@ pub enum Twin {
 }
 
 // A byte as a number.
-pub fn wide(x: u8) -> usize
+pub fn to_usize(x: u8) -> usize
     ensures { λ r. ⌜ (r ≡ x) × (r < 256) ⌝ }
 {
     x as usize
@@ -60,7 +60,7 @@ pub fn same_name(a: &[u8], b: &[u8]) -> bool
     }
     let mut i = 0;
     while i + 8 <= a.len() {
-        if le8(a, i) != le8(b, i) {
+        if read_u64(a, i) != read_u64(b, i) {
             return false;
         }
         i += 8;
@@ -85,7 +85,7 @@ pub fn names_start(count: usize) -> usize
 
 // The mode of entry k.
 pub fn mode_at(s: &[u8], k: usize) -> u8
-    requires { ⌜ Laid (now s) × (k < countIn (now s)) ⌝ }
+    requires { ⌜ TableInBounds (now s) × (k < countIn (now s)) ⌝ }
     ensures { λ r. ⌜ ((x : Entry) → EntryAt (entriesIn (now (s .entry))) k x → r ≡ x .mode) ⌝ }
 {
     s[MODES_START + k]
@@ -93,10 +93,10 @@ pub fn mode_at(s: &[u8], k: usize) -> u8
 
 // The length of the name of entry k, of `count` entries.
 pub fn length_at(s: &[u8], count: usize, k: usize) -> usize
-    requires { ⌜ Laid (now s) × ((count ≡ countIn (now s)) × (k < count)) ⌝ }
+    requires { ⌜ TableInBounds (now s) × ((count ≡ countIn (now s)) × (k < count)) ⌝ }
     ensures { λ r. ⌜ (r ≡ lengthAt (now (s .entry)) k) × (r < 256) ⌝ }
 {
-    wide(s[MODES_START + count + k])
+    to_usize(s[MODES_START + count + k])
 }
 
 // The sum of n bytes from a position on.
@@ -107,7 +107,7 @@ fn sum_from(s: &[u8], at: usize, n: usize) -> usize
     let mut k = 0;
     let mut total: usize = 0;
     while k < n {
-        total += wide(s[at + k]);
+        total += to_usize(s[at + k]);
         k += 1;
     }
     total
@@ -135,8 +135,8 @@ fn well_made(s: &[u8], most: u8) -> bool
     if s.len() < MODES_START {
         return false;
     }
-    let count = le2(s, COUNT_START) as usize;
-    let total = le2(s, TOTAL_START) as usize;
+    let count = read_u16(s, COUNT_START) as usize;
+    let total = read_u16(s, TOTAL_START) as usize;
     if 64 < count {
         return false;
     }
@@ -168,10 +168,10 @@ pub fn is_list(s: &[u8]) -> bool
 
 // How many entries there are.
 pub fn count_of(s: &[u8]) -> usize
-    requires { ⌜ Laid (now s) ⌝ }
+    requires { ⌜ TableInBounds (now s) ⌝ }
     ensures { λ r. ⌜ (r ≡ countIn (now (s .entry))) × (r ≤ 64) ⌝ }
 {
-    le2(s, COUNT_START) as usize
+    read_u16(s, COUNT_START) as usize
 }
 
 // The index of an entry, or none.

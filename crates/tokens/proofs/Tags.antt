@@ -9,7 +9,7 @@ use denote.Enum.Declared.{tagOf}
 use Rattle.classes.specs.Class.{openBracket, closeBracket, comma, ampersand}
 use Rattle.tokens.proofs.Token.{the-type}
 use Rattle.tokens.specs.Token.{lastOf}
-use Rattle.tokens.specs.Inner.Bounds.{behind}
+use Rattle.tokens.specs.Inner.Bounds.{nextOfClass}
 use Rattle.tokens.specs.declared.Token.{Token}
 use Rattle.tokens.specs.declared.Token.the-variants.{End, Open, Close, Comma, And, Or, Word, Fault}
 use Rattle.tokens.specs.declared.Next.the-variants.{Off}
@@ -27,8 +27,8 @@ not-fault (Word p a b q n) h = refl
 not-fault (Fault f) h = absurd (miss (0 ∷ 1 ∷ 2 ∷ 3 ∷ 4 ∷ 5 ∷ 6 ∷ []) 7 tt h)
 
 -- a token that is no sign is not the sign asked for
-pub not-sign : (t : Token) → OneOf (0 ∷ 1 ∷ 2 ∷ 3 ∷ 6 ∷ 7 ∷ []) (tagOf the-type t) → (k : ℕ) → ampersand ≤ k → behind k t ≡ Off
-unfolding behind
+pub not-sign : (t : Token) → OneOf (0 ∷ 1 ∷ 2 ∷ 3 ∷ 6 ∷ 7 ∷ []) (tagOf the-type t) → (k : ℕ) → ampersand ≤ k → nextOfClass k t ≡ Off
+unfolding nextOfClass
 not-sign (End p) h k l = refl
 not-sign (Open p n) h k l = rw (ne-eqb k openBracket (λ e. omega arith))
 not-sign (Close p n) h k l = rw (ne-eqb k closeBracket (λ e. omega arith))

@@ -37,13 +37,13 @@ unfoldable pub quotedAt : List ℕ → ℕ → ℕ → Token
 quotedAt s p mark = quotedTo s p (runEnd (other mark) s (p + 1))
 
 -- "Unquoted `and` and `or`, in any case of letters, are the signs"; the word ends at e
-unfoldable pub bareTo : List ℕ → ℕ → ℕ → Token
-bareTo s p e =
+unfoldable pub unquotedTo : List ℕ → ℕ → ℕ → Token
+unquotedTo s p e =
     cond (equalIgnoringCase (part s p e) (bytes "and")) (And p e)
     (cond (equalIgnoringCase (part s p e) (bytes "or")) (Or p e) (Word p p e false e))
 
-unfoldable pub bareAt : List ℕ → ℕ → Token
-bareAt s p = bareTo s p (runEnd (ofClass word) s p)
+unfoldable pub unquotedAt : List ℕ → ℕ → Token
+unquotedAt s p = unquotedTo s p (runEnd (ofClass word) s p)
 
 -- the token whose first byte is b, of class k, at p
 unfoldable pub tokenOf : List ℕ → ℕ → ℕ → ℕ → Token
@@ -54,7 +54,7 @@ tokenOf s p b k =
     (cond (eqb k ampersand) (signAt s p (And p (p + 2)))
     (cond (eqb k bar) (signAt s p (Or p (p + 2)))
     (cond (eqb k quote) (quotedAt s p b)
-    (cond (eqb k word) (bareAt s p)
+    (cond (eqb k word) (unquotedAt s p)
     (Fault (refusal strayCharacter p))))))))
 
 -- the token that begins at p, where no blank stands

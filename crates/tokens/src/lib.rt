@@ -5,7 +5,7 @@ ghost use lib.ListN.{length};
 ghost use Rattle.slices.specs.Text.{part};
 ghost use Rattle.refusals.specs.Refusals.{refusal, halfSign};
 ghost use Rattle.classes.specs.Class.{faults};
-ghost use Rattle.tokens.specs.Token.{quotedAt, bareAt, doubled, tokenAt};
+ghost use Rattle.tokens.specs.Token.{quotedAt, unquotedAt, doubled, tokenAt};
 use ascii::eq_ignore_ascii_case;
 use classes::class_at;
 use classes::class_end;
@@ -91,9 +91,9 @@ fn quoted_at(text: &[u8], p: usize, mark: u8) -> Token
 }
 
 // The bare word that begins at p: `and` and `or`, in any case of letters, are the signs.
-pub fn bare_at(text: &[u8], p: usize, class: &[u8; 256]) -> Token
+pub fn unquoted_at(text: &[u8], p: usize, class: &[u8; 256]) -> Token
     requires { ⌜ (p < length (now text)) × (faults (now class) ≡ 0) ⌝ }
-    ensures { λ r. ⌜ r ≡ bareAt (now (text .entry)) p ⌝ }
+    ensures { λ r. ⌜ r ≡ unquotedAt (now (text .entry)) p ⌝ }
 {
     let e = class_end(text, p, classes::WORD, class);
     let word = word_of(text, p, e);
@@ -175,7 +175,7 @@ pub fn token_at(text: &[u8], at: usize, class: &[u8; 256]) -> Token
             half_sign(place)
         }
         classes::QUOTE => quoted_at(text, place, b),
-        classes::WORD => bare_at(text, place, class),
+        classes::WORD => unquoted_at(text, place, class),
         _ => Token::Fault(Refusal {
             number: refusals::STRAY_CHARACTER,
             place,

@@ -11,7 +11,7 @@ use Rattle.image.specs.Decode.{decode}
 use Rattle.grammar.specs.Reading.{Read, rule, refused, readOf}
 use Rattle.store_table.specs.Names.{has}
 use Rattle.store_table.specs.Stores.{Entry, entriesIn, allNames, writeOnlyNames}
-use Rattle.evaluate.specs.Evict.{worldOf, evict}
+use Rattle.evaluate.specs.Evict.{envOf, evict}
 use Rattle.decide.specs.Tests.{unlessDue, tableTest, twinTest}
 use Rattle.verdict.specs.declared.Unknown.{Unknown}
 use Rattle.verdict.specs.declared.Unknown.the-variants.{No, At}
@@ -49,12 +49,12 @@ abbrev pub oldest : ℕ
 oldest = 2 ^ 64 - 1
 
 -- "21 (largest age, nothing confirmed)"
-abbrev pub bare : Rule → List Entry → Bool
-bare r stores = evict r (worldOf stores oldest [])
+abbrev pub evictsUnconfirmed : Rule → List Entry → Bool
+evictsUnconfirmed r stores = evict r (envOf stores oldest [])
 
 -- "22 (largest age, exactly the write-only names, only if there are some)"
-abbrev pub archived : Rule → List Entry → Bool
-archived r stores = leb 1 (length (writeOnlyNames stores)) && evict r (worldOf stores oldest (writeOnlyNames stores))
+abbrev pub evictsOnArchive : Rule → List Entry → Bool
+evictsOnArchive r stores = leb 1 (length (writeOnlyNames stores)) && evict r (envOf stores oldest (writeOnlyNames stores))
 
 -- ---- check
 
@@ -68,7 +68,7 @@ verdict No false false = Pass
 -- "no stores passes"
 abbrev pub checkStores : Rule → List Entry → Verdict
 checkStores r [] = Pass
-checkStores r (e ∷ es) = let stores = e ∷ es in verdict (unknownIn stores r 0) (bare r stores) (archived r stores)
+checkStores r (e ∷ es) = let stores = e ∷ es in verdict (unknownIn stores r 0) (evictsUnconfirmed r stores) (evictsOnArchive r stores)
 
 -- 17, then 18
 unfoldable pub checkRule : Rule → List ℕ → Verdict

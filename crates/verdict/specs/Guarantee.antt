@@ -17,8 +17,8 @@ use Rattle.read.specs.Outcome.{readInto}
 use Rattle.read.specs.declared.Reading.{Reading}
 use Rattle.read.specs.declared.Reading.the-variants.{Read as Written, Refused as Unread}
 use Rattle.store_table.specs.Stores.{Entry, isTable, isList, countIn, entriesIn, isReadable, Distinct, writeOnly}
-use Rattle.evaluate.specs.Evict.{worldOf, evict}
-use Rattle.decide.specs.Decide.{saying, listNames, decideOf}
+use Rattle.evaluate.specs.Evict.{envOf, evict}
+use Rattle.decide.specs.Decide.{decisionOf, listNames, decideOf}
 use Rattle.verdict.specs.Check.{oldest, checkOf}
 use Rattle.verdict.specs.declared.Verdict.{Verdict}
 use Rattle.verdict.specs.declared.Verdict.the-variants.{Pass, Refused}
@@ -63,7 +63,7 @@ Known r s = (w : List ℕ) → List·Memᴰ w (namesIn r) → Named w s
 
 -- "It says evict when the lines under Deciding come out so at its root, for that table, an age and a well-made list"
 abbrev pub Evicts : Rule → List ℕ → ℕ → List ℕ → Type 0
-Evicts r s age l = evict r (worldOf (entriesIn s) age (listNames l)) ≡ true
+Evicts r s age l = evict r (envOf (entriesIn s) age (listNames l)) ≡ true
 
 -- "some readable store's name is on that list"
 abbrev pub ReadableOn : List ℕ → List ℕ → Type 0
@@ -116,6 +116,6 @@ pub record Judged (text s : List ℕ) (v : Verdict) : Type 0 where
   -- 6: "decide, given the image read from the text, answers the same"
   pub decides : (r : Rule) → readOf text ≡ rule r → isTable s ≡ true → Distinct (entriesIn s) → (buffer : List ℕ) → 26_628 ≤ length buffer →
       (age : ℕ) (l : List ℕ) → isList l ≡ true →
-      (let o = readInto text buffer in decideOf (bytesWritten (o .answer) (o .image)) s age l ≡ saying (evict r (worldOf (entriesIn s) age (listNames l))))
+      (let o = readInto text buffer in decideOf (bytesWritten (o .answer) (o .image)) s age l ≡ decisionOf (evict r (envOf (entriesIn s) age (listNames l))))
   -- 7: "reading and checking" is judge
   pub read-check : (buffer : List ℕ) → 26_628 ≤ length buffer → (let o = readInto text buffer in v ≡ thenCheck (o .answer) (o .image) s)

@@ -49,7 +49,7 @@ returns-2 c =
     let p₂ = p₃ .before .before .before .before .before in
     let p₁ = p₂ .before .before .before .before in
     let g = p₁ .before .before in
-    made-table (g .before .before .before .before .before .before .fill .ensures) _ (g .before .count .given .1) (p₁ .put2 .ensures) (p₂ .put22 .ensures) (p₃ .append .ensures) (p₄ .append2 .ensures) (p₅ .append3 .ensures) (omega (arith, append-requires-3 (p₅ .before) (p₅ .append3 .lifetimes)))
+    made-table (g .before .before .before .before .before .before .fill .ensures) _ (g .before .count .given .1) (p₁ .write-u16 .ensures) (p₂ .write-u162 .ensures) (p₃ .append .ensures) (p₄ .append2 .ensures) (p₅ .append3 .ensures) (omega (arith, append-requires-3 (p₅ .before) (p₅ .append3 .lifetimes)))
 
 pub table-of-spec : {M : Type 1} → statement M
 table-of-spec =
@@ -61,8 +61,8 @@ table-of-spec =
     (λ c κs. search needs)  -- fill-requires
     (λ c. search needs)  -- enum-known-index
     (λ c. search needs)  -- enum-known-count
-    (λ c κs. search needs)  -- put2-requires
-    (λ c κs. search needs)  -- put2-requires-2
+    (λ c κs. search needs)  -- write-u16-requires
+    (λ c κs. search needs)  -- write-u16-requires-2
     array-share-prefix-modes
     slice-aggregate-append
     append-requires

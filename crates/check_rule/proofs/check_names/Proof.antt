@@ -8,20 +8,20 @@ use Rattle.image.specs.Inner.Subtree.{rowOf}
 use Rattle.evaluate.proofs.Laws.ByLaws.{by-says}
 use Rattle.rules.specs.Rule.{Rule, size}
 use Rattle.image.specs.Decode.{cellAt}
-use Rattle.image.specs.Inner.Standing.{Stands}
+use Rattle.image.specs.Inner.Standing.{EncodedAt}
 use Rattle.store_table.specs.Stores.{entriesIn, writeOnlyNames}
-use Rattle.evaluate.specs.Evict.{worldOf, evict}
-use Rattle.verdict.specs.Check.{oldest, bare}
+use Rattle.evaluate.specs.Evict.{envOf, evict}
+use Rattle.verdict.specs.Check.{oldest, evictsUnconfirmed}
 use Rattle.verdict.proofs.Laws.CheckLaws.{refused-20, refused-21, refused-22, passed}
 use Rattle.check_rule.proofs.check_names.Statement.{statement}
 use Rattle.check_rule.proofs.check_names.Tie as tie
 
 -- what the rule says with nothing confirmed, and with just the write-only stores
-the-bare : (c : tie.After-evaluate) → (let s = c .before .before .before .before .before .before .before .before .before .before .before .args in (r : Rule) → size r ≡ s .n → Stands r (cellAt (s .image .now) (s .n)) 0 → c .evaluate .result ≡ bare r (entriesIn (s .stores .now)))
-the-bare c r z st = c .evaluate .ensures r z st ∙ by-says _ _ (worldOf _ oldest []) _ (λ i lt l e. c .before .before .before .before .before .before .grade-leaves .ensures .1 (c .before .before .enum-told .given .1) i lt l e .bare) r 0 (omega arith) st
+the-bare : (c : tie.After-evaluate) → (let s = c .before .before .before .before .before .before .before .before .before .before .before .args in (r : Rule) → size r ≡ s .n → EncodedAt r (cellAt (s .image .now) (s .n)) 0 → c .evaluate .result ≡ evictsUnconfirmed r (entriesIn (s .stores .now)))
+the-bare c r z st = c .evaluate .ensures r z st ∙ by-says _ _ (envOf _ oldest []) _ (λ i lt l e. c .before .before .before .before .before .before .grade-leaves .ensures .1 (c .before .before .enum-told .given .1) i lt l e .bare) r 0 (omega arith) st
 
-the-archived : (c : tie.After-evaluate2) → (let s = c .before .before .before .before .before .before .before .before .before .before .before .before .before .before .args in (r : Rule) → size r ≡ s .n → Stands r (cellAt (s .image .now) (s .n)) 0 → c .evaluate2 .result ≡ evict r (worldOf (entriesIn (s .stores .now)) oldest (writeOnlyNames (entriesIn (s .stores .now)))))
-the-archived c r z st = c .evaluate2 .ensures r z st ∙ by-says _ _ (worldOf _ oldest (writeOnlyNames _)) _ (λ i lt l e. c .before .before .before .before .before .before .before .before .before .grade-leaves .ensures .1 (c .before .before .before .before .before .enum-told .given .1) i lt l e .archived) r 0 (omega arith) st
+the-archived : (c : tie.After-evaluate2) → (let s = c .before .before .before .before .before .before .before .before .before .before .before .before .before .before .args in (r : Rule) → size r ≡ s .n → EncodedAt r (cellAt (s .image .now) (s .n)) 0 → c .evaluate2 .result ≡ evict r (envOf (entriesIn (s .stores .now)) oldest (writeOnlyNames (entriesIn (s .stores .now)))))
+the-archived c r z st = c .evaluate2 .ensures r z st ∙ by-says _ _ (envOf _ oldest (writeOnlyNames _)) _ (λ i lt l e. c .before .before .before .before .before .before .before .before .before .grade-leaves .ensures .1 (c .before .before .before .before .before .enum-told .given .1) i lt l e .archived) r 0 (omega arith) st
 
 returns : tie.Need-returns
 returns c r z st =

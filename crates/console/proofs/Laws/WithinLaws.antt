@@ -5,10 +5,10 @@ use Prim.Native.Nat.{ℕ, _≤_}
 use native.Mathlib.Omega.{arith}
 use lib.ListN.{length, take, length-append}
 use lib.Seq.{length-take-le}
-use Rattle.slices.specs.Written.{Put}
+use Rattle.slices.specs.Written.{WrittenAt}
 use Rattle.slices.proofs.Laws.WrittenLaws.{written-front}
 
-module _ {a b : List ℕ} {e : ℕ} {v : List ℕ} (x : Put a b 0 e v) where
+module _ {a b : List ℕ} {e : ℕ} {v : List ℕ} (x : WrittenAt a b 0 e v) where
   pub put-within : e ≤ length b
   put-within = omega (arith, simp length-append at (ap length (x .text ∙ written-front a v)))
 

@@ -10,9 +10,9 @@ use Rattle.image.specs.Decode.{isSome, cellAt, decode}
 use Rattle.image.proofs.Laws.FitLaws.{isSome-true, isSome-false}
 use Rattle.store_table.specs.Stores.{isTable, isList, entriesIn, allNames, readyCount, twinOf}
 use Rattle.store_table.specs.declared.Twin.the-variants.{No, At}
-use Rattle.image.specs.Inner.Standing.{Stands}
+use Rattle.image.specs.Inner.Standing.{EncodedAt}
 use Rattle.evaluate.specs.Evict.{evict}
-use Rattle.decide.specs.Decide.{saying, decideOf}
+use Rattle.decide.specs.Decide.{decisionOf, decideOf}
 use Rattle.decide.proofs.Laws.DecideLaws.{decide-16, decide-17, decide-18, decide-19, decide-says}
 use Rattle.image.proofs.Laws.InsideLaws.{decode-whole}
 use Rattle.decide.specs.declared.Decision.the-variants.{Refused}
@@ -38,9 +38,9 @@ module _ (i s : List ℕ) (a : ℕ) (l : List ℕ) where
         refused-19 e = let (r, p) = isSome-true (decode i) image in sym (decide-19 i s a l p table lone e)
 
         -- b is the answer of whatever rule has all n nodes
-        pub answered : {n ready : ℕ} → isList l ≡ true → n ≡ nodeCountIn i → ready ≡ readyCount (entriesIn s) (allNames (entriesIn l)) → (b : Bool) → ((r : Rule) → size r ≡ n → Stands r (cellAt i n) 0 → b ≡ evict r (record { age = a; ready = ready; names = allNames (entriesIn l) })) → saying b ≡ decideOf i s a l
+        pub answered : {n ready : ℕ} → isList l ≡ true → n ≡ nodeCountIn i → ready ≡ readyCount (entriesIn s) (allNames (entriesIn l)) → (b : Bool) → ((r : Rule) → size r ≡ n → EncodedAt r (cellAt i n) 0 → b ≡ evict r (record { age = a; ready = ready; names = allNames (entriesIn l) })) → decisionOf b ≡ decideOf i s a l
         answered is p c b says =
             let (r, e) = isSome-true (decode i) image in
             let w = decode-whole i p e in
             let q = rw c at (says r (w .sized) (w .stands)) in
-            ap saying q ∙ sym (decide-says i s a l e table lone is)
+            ap decisionOf q ∙ sym (decide-says i s a l e table lone is)

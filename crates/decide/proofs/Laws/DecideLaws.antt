@@ -11,8 +11,8 @@ use Rattle.image.specs.Decode.{decode}
 use Rattle.image.proofs.Laws.ImageLaws.{encode-bytes, decode-encode}
 use Rattle.store_table.specs.Stores.{isTable, isList, entriesIn, twinOf}
 use Rattle.store_table.specs.declared.Twin.the-variants.{No, At}
-use Rattle.evaluate.specs.Evict.{worldOf, evict}
-use Rattle.decide.specs.Decide.{saying, listNames, decideRule, decideOf}
+use Rattle.evaluate.specs.Evict.{envOf, evict}
+use Rattle.decide.specs.Decide.{decisionOf, listNames, decideRule, decideOf}
 use Rattle.decide.specs.declared.Decision.the-variants.{Refused}
 
 -- of bytes i, s and l, and an age a
@@ -43,7 +43,7 @@ module _ (i s : List ℕ) (a : ℕ) (l : List ℕ) where
         unfolding decideOf
         decide-19 e = rw (image, table, lone, e)
 
-        pub decide-says : isList l ≡ true → decideOf i s a l ≡ saying (evict r (worldOf (entriesIn s) a (listNames l)))
+        pub decide-says : isList l ≡ true → decideOf i s a l ≡ decisionOf (evict r (envOf (entriesIn s) a (listNames l)))
         unfolding decideOf
         decide-says e = rw (image, table, lone, e)
 

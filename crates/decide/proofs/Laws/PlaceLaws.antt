@@ -12,8 +12,8 @@ use Rattle.store_table.specs.Stores.{isTable, isList, entriesIn, twinOf}
 use Rattle.store_table.proofs.Laws.TwinLaws.{twin-index}
 use Rattle.store_table.specs.declared.Twin.{Twin}
 use Rattle.store_table.specs.declared.Twin.the-variants.{No, At}
-use Rattle.evaluate.specs.Evict.{worldOf, evict}
-use Rattle.decide.specs.Decide.{saying, listNames, decideOf}
+use Rattle.evaluate.specs.Evict.{envOf, evict}
+use Rattle.decide.specs.Decide.{decisionOf, listNames, decideOf}
 use Rattle.decide.proofs.Laws.DecideLaws.{decide-16, decide-17, decide-18, decide-19, decide-says}
 use Rattle.decide.specs.declared.Decision.the-variants.{Refused}
 
@@ -22,13 +22,13 @@ module _ (i s : List ℕ) (a : ℕ) (l : List ℕ) (f : Refusal) (due : decideOf
   by : {g : Refusal} → decideOf i s a l ≡ Refused g → g .place < 64 → f .place < 64
   by {g} e h = let q : g ≡ f = cc in rw (← q) h
 
-  never : (b : Bool) → saying b ≡ Refused f → ⊥
+  never : (b : Bool) → decisionOf b ≡ Refused f → ⊥
   never true e = let z : _≡_ {A = ℕ} 0 1 = cc in omega arith
   never false e = let z : _≡_ {A = ℕ} 0 1 = cc in omega arith
 
   module _ {r : Rule} (image : decode i ≡ some r) where
     by-list : isTable s ≡ true → twinOf (entriesIn s) ≡ No → (b : Bool) → isList l ≡ b → f .place < 64
-    by-list table distinct true e = absurd (never (evict r (worldOf (entriesIn s) a (listNames l))) (sym (decide-says i s a l image table distinct e) ∙ due))
+    by-list table distinct true e = absurd (never (evict r (envOf (entriesIn s) a (listNames l))) (sym (decide-says i s a l image table distinct e) ∙ due))
     by-list table distinct false e = by (decide-19 i s a l image table distinct e) (omega arith)
 
     by-twin : isTable s ≡ true → (t : Twin) → twinOf (entriesIn s) ≡ t → f .place < 64

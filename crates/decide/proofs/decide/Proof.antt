@@ -9,7 +9,7 @@ use Rattle.store_table.specs.Stores.{isTable, isList, entriesIn, twinOf}
 use Rattle.store_table.proofs.Laws.StoresLaws.{well-made-laid}
 use Rattle.store_table.proofs.Laws.BlankLaws.{zeros-blank}
 use Rattle.store_table.specs.declared.Twin.the-variants.{No}
-use Rattle.decide.specs.Decide.{saying, decideOf}
+use Rattle.decide.specs.Decide.{decisionOf, decideOf}
 use Rattle.image.proofs.Laws.InsideLaws.{image-inside, image-few}
 use Rattle.decide.proofs.Laws.AnswerLaws.{refused-16, refused-17, refused-18, refused-19, answered}
 use Rattle.decide.proofs.decide.Statement.{statement}
@@ -67,15 +67,15 @@ rule-says-requires c κs =
 -- the rule's own answer is what deciding gives
 the-answer : (c : tie.After-rule-says) →
     let s = c .before .before .before .before .before .before .before .before .before .before .before .before .before .before .before .before .before .before .before .before .before .before .before .before .before .args in
-    saying (c .rule-says .result) ≡ decideOf (s .image .now) (s .stores .now) (s .age) (s .list .now)
+    decisionOf (c .rule-says .result) ≡ decideOf (s .image .now) (s .stores .now) (s .age) (s .list .now)
 the-answer c =
     answered _ _ _ _ (the-image (c .before .before .before .before .before .before .before .before .before .before .before .before .before .before .before .before .before .before .before .before)) (the-table (c .before .before .before .before .before .before .before .before .before .before .before .before .before .before .before .before .before .before)) (the-lone (c .before .before .before .before .before .before .before .before .before .before .before .before .before)) (the-list (c .before .before .before .before .before .before .before .before .before .before .before)) (c .before .before .before .before .before .before .node-count .ensures .0) (c .before .before .before .before .ready-count .ensures _ (c .before .before .before .before .before .before .before .mark-confirmed .ensures)) (c .rule-says .result) (c .rule-says .ensures)
 
 returns-5 : tie.Need-returns-5
-returns-5 c = sym (ap saying (c .if4 .taken)) ∙ the-answer (c .before)
+returns-5 c = sym (ap decisionOf (c .if4 .taken)) ∙ the-answer (c .before)
 
 returns-6 : tie.Need-returns-6
-returns-6 c = sym (ap saying (c .if4 .left)) ∙ the-answer (c .before)
+returns-6 c = sym (ap decisionOf (c .if4 .left)) ∙ the-answer (c .before)
 
 pub decide-spec : {M : Type 1} → statement M
 decide-spec =

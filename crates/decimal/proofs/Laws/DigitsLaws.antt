@@ -9,7 +9,7 @@ use borrow.Author.Tests.{ltb-true, ltb-false, lt-ltb, le-ltb}
 use lib.Dec.{ltb}
 use lib.ListN.{length, set, length-append}
 use lib.Seq.{append-snoc}
-use Rattle.slices.specs.Written.{Put}
+use Rattle.slices.specs.Written.{WrittenAt}
 use Rattle.slices.proofs.Laws.WrittenLaws.{put-none, put-byte, put-before, put-length}
 use Rattle.decimal.specs.Decimal.{digitValue, decimalFrom, decimal}
 use Rattle.decimal.specs.Digits.{digit, digitsIn, digitsOf}
@@ -109,7 +109,7 @@ digits-more n l h = rw (digits-last n l h) (length-append (digitsOf (n / 10)) (d
 -- ---- the digits of n put into a text up to `end`, the last one first: those of `left` are not yet put, and those behind them stand from `at` on
 pub record PutBehind (n left : ℕ) (before after : List ℕ) (at end : ℕ) : Type 0 where
   pub digits : List ℕ
-  pub put : Put before after at end digits
+  pub put : WrittenAt before after at end digits
   pub whole : digitsOf left ++ digits ≡ digitsOf n
 
 -- before the first turn
@@ -122,7 +122,7 @@ module _ (n left : ℕ) {before after : List ℕ} {at end : ℕ} (b : PutBehind 
   behind-room h = let e = simp length-append at (ap length (b .whole)) in (omega (arith, digits-some left), omega arith)
 
   module _ (h : length (digitsOf n) ≤ end) (k : end ≤ length before) where
-    byte-put : (d : ℕ) → Put before (set after (at - 1) d) (at - 1) end (d ∷ b .digits)
+    byte-put : (d : ℕ) → WrittenAt before (set after (at - 1) d) (at - 1) end (d ∷ b .digits)
     byte-put d = let r = behind-room h in put-before k (b .put) (put-byte after at d (r .0) (omega (arith, put-length k (b .put))))
 
     -- a turn
@@ -135,5 +135,5 @@ module _ (n left : ℕ) {before after : List ℕ} {at end : ℕ} (b : PutBehind 
         }
 
     -- and the first digit
-    pub behind-first : left < 10 → Put before (set after (at - 1) (digit left)) (at - 1) end (digitsOf n)
+    pub behind-first : left < 10 → WrittenAt before (set after (at - 1) (digit left)) (at - 1) end (digitsOf n)
     behind-first l = rw (← b .whole, digits-one left l) (byte-put (digit left))

@@ -8,12 +8,12 @@ use native.Mathlib.Omega.{arith}
 use borrow.Author.Tests.{ne-eqb}
 use lib.ListN.{length, drop, length-append, drop-of-length-le}
 use Rattle.ascii.specs.Letters.{within}
-use Rattle.slices.specs.Written.{Put}
+use Rattle.slices.specs.Written.{WrittenAt}
 use Rattle.slices.proofs.Laws.WrittenLaws.{put-none, put-behind, put-length}
 use Rattle.slices.proofs.Laws.SearchLaws.{is-below, is-above}
 use Rattle.refusals.specs.declared.Refusal.{Refusal}
 use Rattle.lines.proofs.Laws.LinesLaws.{shown-length}
-use Rattle.store_table.specs.Stores.{Entry, writeOnly, namesStart, Laid, countIn, entriesIn, writeOnlyNames}
+use Rattle.store_table.specs.Stores.{Entry, writeOnly, namesStart, TableInBounds, countIn, entriesIn, writeOnlyNames}
 use Rattle.store_table.specs.Inner.Index.{Standing, EntryAt, lengthAt}
 use Rattle.store_table.proofs.Laws.WalkLaws.{length-entries, standing-start, standing-next, standing-here, entryAt}
 use Rattle.details.specs.Report.{confirmedLine, confirmedLines, detail}
@@ -38,17 +38,17 @@ detail-none text es f o a b c d =
 pub record Named (s a b : List ℕ) (at count k start end : ℕ) : Type 0 where
   pub stands : Standing s count k start
   pub done : List ℕ
-  pub put : Put a b at end done
+  pub put : WrittenAt a b at end done
   pub rest : done ++ confirmedLines (writeOnlyNames (drop k (entriesIn s))) ≡ confirmedLines (writeOnlyNames (entriesIn s))
 
-pub named-start : (s a : List ℕ) (at count : ℕ) → Laid s → count ≡ countIn s → Named s a a at count 0 (namesStart count) at
+pub named-start : (s a : List ℕ) (at count : ℕ) → TableInBounds s → count ≡ countIn s → Named s a a at count 0 (namesStart count) at
 named-start s a at count h e = record { stands = standing-start s count h e; done = []; put = put-none a at; rest = refl }
 
 module _ {s a b : List ℕ} {at count k start end : ℕ} (h : Named s a b at count k start end) (room : at + length s + 768 ≤ length a) where
   pub named-length : length b ≡ length a
   named-length = put-length (omega (arith, simp length-append at (ap length (h .rest)), lines-short s (h .stands .laid))) (h .put)
 
-  pub named-end : count ≤ k → Put a b at end (confirmedLines (writeOnlyNames (entriesIn s)))
+  pub named-end : count ≤ k → WrittenAt a b at end (confirmedLines (writeOnlyNames (entriesIn s)))
   unfolding confirmedLines writeOnlyNames
   named-end le =
       let l : length (entriesIn s) ≤ k = omega (arith, length-entries s (h .stands .laid)) in
@@ -80,7 +80,7 @@ module _ {s a b : List ℕ} {at count k start end : ℕ} (h : Named s a b at cou
       named-room =
           omega (arith, simp (length-append, shown-length) at (ap length rest-yes), lines-short s (h .stands .laid), named-length)
 
-      pub named-yes : {c : List ℕ} {now : ℕ} → Put b c end now (confirmedLine (entryAt s k start len .name)) → Named s a c at count (k + 1) (start + len) now
+      pub named-yes : {c : List ℕ} {now : ℕ} → WrittenAt b c end now (confirmedLine (entryAt s k start len .name)) → Named s a c at count (k + 1) (start + len) now
       named-yes {c} {now} p =
           record {
             stands = standing-next (h .stands) lt e;

@@ -17,7 +17,7 @@ use Rattle.image.specs.Encode.{encode}
 use Rattle.image.specs.Decode.{nodeAt, cellAt, meaning}
 use Rattle.grammar.specs.Reading.{Read, rule, refused, readOf}
 use Rattle.grammar.proofs.Laws.FitsLaws.{read-length}
-use Rattle.store_table.specs.Stores.{Laid, entriesFrom, entriesIn, modesIn, lengthsIn, nameBytesIn, sum, writeOnly, writeOnlyNames}
+use Rattle.store_table.specs.Stores.{TableInBounds, entriesFrom, entriesIn, modesIn, lengthsIn, nameBytesIn, sum, writeOnly, writeOnlyNames}
 use Rattle.verdict.specs.declared.Verdict.{Verdict}
 use Rattle.verdict.specs.declared.Verdict.the-variants.{Pass, Refused}
 use Rattle.details.specs.Report.{verdictLine, nameIn, nodeName, confirmedLines}
@@ -80,6 +80,6 @@ lines-from (m ∷ ms) (l ∷ ls) bs = go (eqb m writeOnly) (writeOnlyNames (entr
     go true ns h = simp (length-append, shown-length, length-take) (omega arith)
     go false ns h = omega arith
 
-pub lines-short : (s : List ℕ) → Laid s → length (confirmedLines (writeOnlyNames (entriesIn s))) ≤ length s + 768
+pub lines-short : (s : List ℕ) → TableInBounds s → length (confirmedLines (writeOnlyNames (entriesIn s))) ≤ length s + 768
 unfolding entriesIn
 lines-short s h = omega (arith, simp length-take at (lines-from (modesIn s) (lengthsIn s) (nameBytesIn s)))

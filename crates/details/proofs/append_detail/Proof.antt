@@ -6,7 +6,7 @@ use native.Mathlib.Omega.{arith}
 use borrow.Author.Needs.{needs}
 use lib.ListN.{length}
 use Rattle.slices.proofs.Laws.SearchLaws.{is-within}
-use Rattle.slices.specs.Written.{Put}
+use Rattle.slices.specs.Written.{WrittenAt}
 use Rattle.slices.proofs.Laws.WrittenLaws.{put-none, put-behind}
 use Rattle.decimal.proofs.Laws.DigitsLaws.{digits-short}
 use Rattle.lines.proofs.Laws.LinesLaws.{shown-length}
@@ -21,7 +21,7 @@ use Rattle.details.proofs.append_detail.Tie as tie
 -- there is no more to say of another number
 no-more : (c : tie.At-match-rest) →
     let a = c .before .before .before .before .args in
-    (3 ≤ a .f .number → a .f .number ≤ 15 → ⊥) → Put (a .page .now) (a .page .now) (a .at) (a .at) (detail (a .text .now) (entriesIn (a .stores .now)) (a .f))
+    (3 ≤ a .f .number → a .f .number ≤ 15 → ⊥) → WrittenAt (a .page .now) (a .page .now) (a .at) (a .at) (detail (a .text .now) (entriesIn (a .stores .now)) (a .f))
 no-more c o =
     let a = c .before .before .before .before .args in
     let r = c .match .rest in

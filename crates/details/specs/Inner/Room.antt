@@ -6,7 +6,7 @@ use lib.ListN.{length}
 use Rattle.refusals.specs.declared.Refusal.{Refusal}
 use Rattle.verdict.specs.declared.Verdict.{Verdict}
 use Rattle.verdict.specs.declared.Verdict.the-variants.{Refused}
-use Rattle.store_table.specs.Stores.{Laid}
+use Rattle.store_table.specs.Stores.{TableInBounds}
 
 -- what a refusal that judging gives tells: 3 to 15 are of a text of at most 2,048 bytes, and 18 has the index of one of 64 stores
 pub record Due (text : List ℕ) (f : Refusal) : Type 0 where
@@ -15,14 +15,14 @@ pub record Due (text : List ℕ) (f : Refusal) : Type 0 where
 
 -- a page that has room behind a position for what there is to say of a refusal
 pub record Room (page : List ℕ) (at : ℕ) (text stores : List ℕ) (f : Refusal) : Type 0 where
-  pub laid : Laid stores
+  pub laid : TableInBounds stores
   pub small : length stores ≤ 16_452
   pub room : at + 32_000 ≤ length page
   pub due : Due text f
 
 -- the same for a verdict
 pub record Ready (page : List ℕ) (text stores : List ℕ) (v : Verdict) : Type 0 where
-  pub laid : Laid stores
+  pub laid : TableInBounds stores
   pub small : length stores ≤ 16_452
   pub room : 32_768 ≤ length page
   pub due : (f : Refusal) → v ≡ Refused f → Due text f

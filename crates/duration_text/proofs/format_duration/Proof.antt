@@ -1,4 +1,4 @@
--- `duration_text::format_duration` meets its contract: the parts, put from the last to the first, are the text. Assumes nothing.
+-- `duration_text::format_duration` meets its contract: the parts, prepend from the last to the first, are the text. Assumes nothing.
 use native.Mathlib.Omega.{arith}
 use borrow.Author.Needs.{needs}
 use Rattle.slices.proofs.Laws.WrittenLaws.{put-before}
@@ -6,15 +6,15 @@ use Rattle.duration_text.proofs.Laws.DurationTextLaws.{duration-zero, d
 use Rattle.duration_text.proofs.format_duration.Statement.{statement}
 use Rattle.duration_text.proofs.format_duration.Tie as tie
 
-put-requires : tie.Need-put-requires
-put-requires c κs =
+prepend-requires : tie.Need-prepend-requires
+prepend-requires c κs =
     let s = c .before .before .before .before in
     rw (duration-zero (s .args .ms) (c .before .before .if1 .taken)) at (s .pre)
 
 returns : tie.Need-returns
-returns c = rw (duration-zero _ (c .before .before .before .before .before .if1 .taken)) (c .before .before .put .ensures)
+returns c = rw (duration-zero _ (c .before .before .before .before .before .if1 .taken)) (c .before .before .prepend .ensures)
 
--- of a duration that is not zero: its text is as long as its parts, which are put one before the other
+-- of a duration that is not zero: its text is as long as its parts, which are prepend one before the other
 put-part-requires : tie.Need-put-part-requires
 put-part-requires c κs = let e = c .before .before in omega (arith, duration-length (e .before .before .args .ms) (e .if1 .left))
 
@@ -54,8 +54,8 @@ pub format-duration-spec : {M : Type 1} → statement M
 format-duration-spec =
     tie.close
     (tie.spec
-    (λ c. search needs)  -- slice-aggregate-put
-    put-requires
+    (λ c. search needs)  -- slice-aggregate-prepend
+    prepend-requires
     (λ c. search needs)  -- same-length
     returns
     (λ c. search needs)  -- slice-aggregate-put-part

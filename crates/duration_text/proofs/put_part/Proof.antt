@@ -1,4 +1,4 @@
--- `duration_text::put_part` meets its contract: the unit is put, and the digits before it. Assumes nothing.
+-- `duration_text::put_part` meets its contract: the unit is prepend, and the digits before it. Assumes nothing.
 use native.Mathlib.Omega.{arith}
 use borrow.Author.Needs.{needs}
 use Rattle.slices.proofs.Laws.WrittenLaws.{put-none, put-before}
@@ -9,8 +9,8 @@ use Rattle.duration_text.proofs.put_part.Tie as tie
 returns : tie.Need-returns
 returns c = rw (part-zero _ _ (c .if1 .taken)) (put-none _ _)
 
-put-requires : tie.Need-put-requires
-put-requires c κs = let e = c .before in omega (arith, part-length (e .before .before .before .args .unit .now) _ (e .if1 .left))
+prepend-requires : tie.Need-prepend-requires
+prepend-requires c κs = let e = c .before in omega (arith, part-length (e .before .before .before .args .unit .now) _ (e .if1 .left))
 
 put-digits-requires : tie.Need-put-digits-requires
 put-digits-requires c κs = let e = c .before .before .before .before .before in omega (arith, part-length (e .before .before .before .args .unit .now) _ (e .if1 .left))
@@ -21,7 +21,7 @@ same-length c = search needs
 returns-2 : tie.Need-returns-2
 returns-2 c =
     let e = c .before .before .before .before .before .before .before .before in
-    rw (part-nonzero _ _ (e .if1 .left)) (put-before (e .before .before .before .pre .1) (c .before .before .before .before .before .before .put .ensures) (c .before .before .put-digits .ensures))
+    rw (part-nonzero _ _ (e .if1 .left)) (put-before (e .before .before .before .pre .1) (c .before .before .before .before .before .before .prepend .ensures) (c .before .before .put-digits .ensures))
 
 pub put-part-spec : {M : Type 1} → statement M
-put-part-spec = tie.close (tie.spec returns put-requires put-digits-requires same-length returns-2)
+put-part-spec = tie.close (tie.spec returns prepend-requires put-digits-requires same-length returns-2)

@@ -2,9 +2,9 @@
 use Prim.Native.Nat.{ℕ}
 use mathlib.Core.Path.{sym, ap, _∙_}
 use borrow.Author.Needs.{needs}
-use Rattle.refusals.specs.Refusals.{refusal, openBracket}
+use Rattle.refusals.specs.Refusals.{refusal, bracketExpected}
 use Rattle.tokens.specs.Token.{placeOf}
-use Rattle.nodes.specs.declared.Reach.the-variants.{Refused}
+use Rattle.nodes.specs.declared.ParseEnd.the-variants.{Refused}
 use Rattle.endings.proofs.close_group.Statement.{statement}
 use Rattle.endings.proofs.close_group.Tie as tie
 
@@ -15,7 +15,7 @@ returns c =
     let told = token .before in
     let bracket = told .before .before in
     rw (sym (bracket .bracket-at .ensures) ∙ told .enum-told .given .1)
-    (c .refuse .ensures ∙ ap (λ (p : ℕ). Refused (refusal openBracket p)) (place .place-of .ensures ∙ ap placeOf (token .token-at .ensures)))
+    (c .refuse .ensures ∙ ap (λ (p : ℕ). Refused (refusal bracketExpected p)) (place .place-of .ensures ∙ ap placeOf (token .token-at .ensures)))
 
 returns-2 : tie.Need-returns-2
 returns-2 c =

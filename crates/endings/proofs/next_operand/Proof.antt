@@ -11,7 +11,7 @@ returns c = rw (sym (c .before .before .sign-at .ensures) ∙ c .enum-told .give
 returns-2 : tie.Need-returns-2
 returns-2 c =
     let next = c .before .before in
-    rw (sym (next .before .before .sign-at .ensures) ∙ next .next .given .1) (ap (At (next .next .given .0 .0)) (c .kept .ensures .0))
+    rw (sym (next .before .before .sign-at .ensures) ∙ next .next .given .1) (ap (At (next .next .given .0 .0)) (c .nodes-before-chain .ensures .0))
 
 pub next-operand-spec : {M : Type 1} → statement M
 next-operand-spec =
@@ -21,5 +21,5 @@ next-operand-spec =
     (λ c. search needs)  -- enum-known-next
     (λ c. search needs)  -- enum-told
     returns
-    (λ c κs. search needs)  -- kept-requires
+    (λ c κs. search needs)  -- nodes-before-chain-requires
     returns-2)

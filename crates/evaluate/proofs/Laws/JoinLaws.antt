@@ -8,33 +8,33 @@ use lib.Dec.{leb, eqb, eqb·suc-suc}
 use lib.ListN.{length}
 use borrow.Author.Tests.{le-leb, ne-eqb}
 use Rattle.rules.specs.Rule.{atLeast, all, any}
-use Rattle.evaluate.specs.Evict.{yeses, allSay, anySays, joinSays}
+use Rattle.evaluate.specs.Evict.{countTrue, allSay, anySays, joinSays}
 
-pub yeses-cons : (b : Bool) (bs : List Bool) → yeses (b ∷ bs) ≡ cond b (suc (yeses bs)) (yeses bs)
-unfolding yeses
+pub yeses-cons : (b : Bool) (bs : List Bool) → countTrue (b ∷ bs) ≡ cond b (suc (countTrue bs)) (countTrue bs)
+unfolding countTrue
 yeses-cons true bs = refl
 yeses-cons false bs = refl
 
-pub yeses-le : (bs : List Bool) → yeses bs ≤ length bs
-unfolding yeses
+pub yeses-le : (bs : List Bool) → countTrue bs ≤ length bs
+unfolding countTrue
 yeses-le [] = omega arith
 yeses-le (true ∷ bs) = omega (arith, yeses-le bs)
 yeses-le (false ∷ bs) = omega (arith, yeses-le bs)
 
-all-counts : (bs : List Bool) → allSay bs ≡ eqb (yeses bs) (length bs)
-unfolding yeses allSay
+all-counts : (bs : List Bool) → allSay bs ≡ eqb (countTrue bs) (length bs)
+unfolding countTrue allSay
 all-counts [] = refl
 all-counts (true ∷ bs) = rw eqb·suc-suc (all-counts bs)
-all-counts (false ∷ bs) = let h = yeses-le bs in rw (ne-eqb (yeses bs) (suc (length bs)) (λ e. omega arith))
+all-counts (false ∷ bs) = let h = yeses-le bs in rw (ne-eqb (countTrue bs) (suc (length bs)) (λ e. omega arith))
 
-any-counts : (bs : List Bool) → anySays bs ≡ leb 1 (yeses bs)
-unfolding yeses anySays
+any-counts : (bs : List Bool) → anySays bs ≡ leb 1 (countTrue bs)
+unfolding countTrue anySays
 any-counts [] = refl
-any-counts (true ∷ bs) = rw (le-leb 1 (suc (yeses bs)) (omega arith))
+any-counts (true ∷ bs) = rw (le-leb 1 (suc (countTrue bs)) (omega arith))
 any-counts (false ∷ bs) = any-counts bs
 
 -- y of the answers are evict
-module _ (bs : List Bool) {y : ℕ} (h : yeses bs ≡ y) where
+module _ (bs : List Bool) {y : ℕ} (h : countTrue bs ≡ y) where
   pub says-atLeast : (k : ℕ) → joinSays (atLeast k) bs ≡ leb k y
   unfolding joinSays
   says-atLeast k = rw h

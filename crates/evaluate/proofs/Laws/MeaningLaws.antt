@@ -11,7 +11,7 @@ use Rattle.image.specs.Kinds.{namedKind, olderThanKind, readableKind, atLeastKi
 use Rattle.image.specs.Layout.{nameOf}
 use Rattle.image.specs.Decode.{aLeaf, aJoin, argument0, meaning}
 use Rattle.store_table.specs.Names.{has}
-use Rattle.evaluate.specs.Evict.{World, leafSays, yeses, joinSays}
+use Rattle.evaluate.specs.Evict.{Env, leafSays, countTrue, joinSays}
 use Rattle.evaluate.proofs.Laws.JoinLaws.{says-atLeast, says-all, says-any}
 
 -- the combinator that an argument of 0 makes
@@ -21,7 +21,7 @@ argument-join (suc a) i j e = let z : _≡_ {A = ℕ} 0 1 = cc in absurd (omega 
 
 module _ (s : List ℕ) (n : ℕ) where
   -- a leaf, by its kind
-  module _ {k : ℕ} (a : ℕ) (v : World) (l : Leaf) (e : meaning s n k a ≡ aLeaf l) where
+  module _ {k : ℕ} (a : ℕ) (v : Env) (l : Leaf) (e : meaning s n k a ≡ aLeaf l) where
     pub says-named : {b : Bool} {w : List ℕ} → k ≡ namedKind → w ≡ nameOf s n a → b ≡ has w (v .names) → b ≡ leafSays l v
     unfolding meaning leafSays
     says-named p named-as h =
@@ -44,7 +44,7 @@ module _ (s : List ℕ) (n : ℕ) where
         rw q
 
   -- a combinator over children of whom y say evict, by its kind
-  module _ {k : ℕ} (a : ℕ) (j : Join) (bs : List Bool) (e : meaning s n k a ≡ aJoin j) {y : ℕ} (h : yeses bs ≡ y) where
+  module _ {k : ℕ} (a : ℕ) (j : Join) (bs : List Bool) (e : meaning s n k a ≡ aJoin j) {y : ℕ} (h : countTrue bs ≡ y) where
     pub kind-atLeast : k ≡ atLeastKind → leb a y ≡ joinSays j bs
     unfolding meaning
     kind-atLeast p =

@@ -10,7 +10,7 @@ use borrow.Author.Tests.{leb-true, le-leb, eqb-true, eq-eqb}
 use Rattle.rules.specs.Rule.{Leaf, named, olderThan, readable, Join, atLeast, all, any, Rule, leaf, node, Rules, nil, more, leafNames, namesIn, namesInAll}
 use Rattle.store_table.specs.Names.{has}
 use Rattle.store_table.specs.Stores.{Entry, isReadable, readyCount}
-use Rattle.evaluate.specs.Evict.{World, worldOf, leafSays, yeses, joinSays, evict, answers}
+use Rattle.evaluate.specs.Evict.{Env, envOf, leafSays, countTrue, joinSays, evict, answers}
 use Rattle.evaluate.proofs.Laws.JoinLaws.{yeses-le, yeses-cons, says-atLeast, says-all, says-any}
 
 -- ---- tests and counts, where the second test passes if the first does
@@ -44,7 +44,7 @@ ready-up (e ∷ es) xs ys f = count-up (and-up (isReadable (e .mode)) (f (e .nam
 
 -- as many answers, and no fewer of them evict
 record Grown (xs ys : List Bool) : Type 0 where
-  evicts : yeses xs ≤ yeses ys
+  evicts : countTrue xs ≤ countTrue ys
   as-many : length xs ≡ length ys
 
 cons-up : {x y : Bool} {xs ys : List Bool} → (x ≡ true → y ≡ true) → Grown xs ys → Grown (x ∷ xs) (y ∷ ys)
@@ -52,22 +52,22 @@ cons-up f g = record { evicts = simp yeses-cons (count-up f (g .evicts)); as-man
 
 join-up : (j : Join) {xs ys : List Bool} → Grown xs ys → joinSays j xs ≡ true → joinSays j ys ≡ true
 join-up (atLeast k) {xs} {ys} g e =
-    let h = leb-true k (yeses xs) (sym (says-atLeast xs refl k) ∙ e) in
-    says-atLeast ys refl k ∙ le-leb k (yeses ys) (omega arith)
+    let h = leb-true k (countTrue xs) (sym (says-atLeast xs refl k) ∙ e) in
+    says-atLeast ys refl k ∙ le-leb k (countTrue ys) (omega arith)
 join-up all {xs} {ys} g e =
-    let h = eqb-true (yeses xs) (length xs) (sym (says-all xs refl refl) ∙ e) in
-    says-all ys refl refl ∙ eq-eqb (yeses ys) (length ys) (omega (arith, yeses-le ys))
+    let h = eqb-true (countTrue xs) (length xs) (sym (says-all xs refl refl) ∙ e) in
+    says-all ys refl refl ∙ eq-eqb (countTrue ys) (length ys) (omega (arith, yeses-le ys))
 join-up any {xs} {ys} g e =
-    let h = leb-true 1 (yeses xs) (sym (says-any xs refl) ∙ e) in
-    says-any ys refl ∙ le-leb 1 (yeses ys) (omega arith)
+    let h = leb-true 1 (countTrue xs) (sym (says-any xs refl) ∙ e) in
+    says-any ys refl ∙ le-leb 1 (countTrue ys) (omega arith)
 
 -- ---- rules
 
 -- from one world to another: those of some names that are confirmed in the first are in the second
-abbrev pub Kept : World → World → List (List ℕ) → Type 0
+abbrev pub Kept : Env → Env → List (List ℕ) → Type 0
 Kept u v ws = (w : List ℕ) → List·Memᴰ w ws → has w (u .names) ≡ true → has w (v .names) ≡ true
 
-module _ (u v : World) (older : u .age ≤ v .age) (readier : u .ready ≤ v .ready) where
+module _ (u v : Env) (older : u .age ≤ v .age) (readier : u .ready ≤ v .ready) where
   leaf-up : (l : Leaf) → Kept u v (leafNames l) → leafSays l u ≡ true → leafSays l v ≡ true
   unfolding leafSays
   leaf-up (named w) f e = f w (List·Memᴰ·head refl) e
@@ -93,12 +93,12 @@ module _ (u v : World) (older : u .age ≤ v .age) (readier : u .ready ≤ v .re
 
 module _ (r : Rule) (stores : List Entry) where
   module _ {a b : ℕ} (xs ys : List (List ℕ)) (older : a ≤ b) (onto : (w : List ℕ) → has w xs ≡ true → has w ys ≡ true) where
-    pub monotone : evict r (worldOf stores a xs) ≡ true → evict r (worldOf stores b ys) ≡ true
-    monotone = evict-up (worldOf stores a xs) (worldOf stores b ys) older (ready-up stores xs ys onto) r (λ w m. onto w)
+    pub monotone : evict r (envOf stores a xs) ≡ true → evict r (envOf stores b ys) ≡ true
+    monotone = evict-up (envOf stores a xs) (envOf stores b ys) older (ready-up stores xs ys onto) r (λ w m. onto w)
 
     -- so a rule that keeps at the largest age, with the most names, always keeps
-    pub monotone-keep : evict r (worldOf stores b ys) ≡ false → evict r (worldOf stores a xs) ≡ false
+    pub monotone-keep : evict r (envOf stores b ys) ≡ false → evict r (envOf stores a xs) ≡ false
     monotone-keep = keep-down monotone
 
-  pub as-set : (a : ℕ) (xs ys : List (List ℕ)) → ((w : List ℕ) → has w xs ≡ has w ys) → evict r (worldOf stores a xs) ≡ evict r (worldOf stores a ys)
+  pub as-set : (a : ℕ) (xs ys : List (List ℕ)) → ((w : List ℕ) → has w xs ≡ has w ys) → evict r (envOf stores a xs) ≡ evict r (envOf stores a ys)
   as-set a xs ys f = both-ways (monotone xs ys (omega arith) (λ w e. sym (f w) ∙ e)) (monotone ys xs (omega arith) (λ w e. f w ∙ e))

@@ -9,14 +9,14 @@ use Rattle.rules.specs.Rule.{Leaf, Join, Rule, leaf, node, Rules, nil, more, si
 use Rattle.image.specs.Decode.{Meaning, aLeaf, aJoin, Cell}
 use Rattle.image.proofs.Laws.EncodeLaws.{size-pos}
 use Rattle.image.proofs.Laws.StandingLaws.{root-size}
-use Rattle.image.specs.Inner.Standing.{Stands, StandAll}
-use Rattle.evaluate.specs.Evict.{yeses, joinSays}
+use Rattle.image.specs.Inner.Standing.{EncodedAt, EncodedAllAt}
+use Rattle.evaluate.specs.Evict.{countTrue, joinSays}
 use Rattle.evaluate.specs.Inner.By.{evictBy, answersBy}
 use Rattle.image.specs.Inner.Subtree.{Subtree}
 use Rattle.image.proofs.Laws.KindLaws.{NoLeaf, NoJoin}
 
-yeses-moved : (b : Bool) (bs : List Bool) (y z : ℕ) → z ≡ cond b (suc y) y → z + yeses bs ≡ y + yeses (b ∷ bs)
-unfolding yeses
+yeses-moved : (b : Bool) (bs : List Bool) (y z : ℕ) → z ≡ cond b (suc y) y → z + countTrue bs ≡ y + countTrue (b ∷ bs)
+unfolding countTrue
 yeses-moved true bs y z e = omega arith
 yeses-moved false bs y z e = omega arith
 
@@ -28,47 +28,47 @@ moved-few false e = omega arith
 -- of the rules rs and r, `rest` are not yet asked, and stand from `from` up to `end`; in each world that
 -- counts, y of the t asked say evict
 pub record Walk (f : ℕ → Cell) (g : ℕ → Bool) (from end y t : ℕ) (rs : Rules) (r : Rule) (rest : Rules) : Type 0 where
-  pub standing : StandAll rest f from
+  pub standing : EncodedAllAt rest f from
   pub ends : from + sizes rest ≡ end
-  pub evicts : y + yeses (answersBy g rest from) ≡ yeses (answersBy g (more rs r) from)
+  pub evicts : y + countTrue (answersBy g rest from) ≡ countTrue (answersBy g (more rs r) from)
   pub told : t + length (answersBy g rest from) ≡ length (answersBy g (more rs r) from)
 
 -- so for whatever combinator has the k cells from `from` on
 abbrev pub Walks : (ℕ → Cell) → (ℕ → Bool) → ℕ → ℕ → ℕ → ℕ → ℕ → Type 0
 Walks f g from k end y t =
-    (j : Join) (rs : Rules) (r : Rule) → size (node j rs r) ≡ k → Stands (node j rs r) f from → (rest : Rules) × Walk f g from end y t rs r rest
+    (j : Join) (rs : Rules) (r : Rule) → size (node j rs r) ≡ k → EncodedAt (node j rs r) f from → (rest : Rules) × Walk f g from end y t rs r rest
 
 -- the last rule that is not yet asked
 pub record Last (f : ℕ → Cell) (from end : ℕ) : Type 0 where
   pub before : Rules
   pub child : Rule
-  pub stands : Stands child f (from + sizes before)
+  pub stands : EncodedAt child f (from + sizes before)
   pub ends : from + sizes before + size child ≡ end
 
 -- an answer is that of whatever rule has the k cells from `from` on, in each world that counts
 abbrev pub Answered : (ℕ → Cell) → (ℕ → Bool) → ℕ → ℕ → Bool → Type 0
-Answered f g from k b = (r : Rule) → size r ≡ k → Stands r f from → b ≡ evictBy g r from
+Answered f g from k b = (r : Rule) → size r ≡ k → EncodedAt r f from → b ≡ evictBy g r from
 
 module _ (f : ℕ → Cell) (g : ℕ → Bool) (from k : ℕ) where
   pub walks-start : Walks f g from k (from + k - 1) 0 0
-  unfolding size Stands
+  unfolding size EncodedAt
   walks-start j rs r e st =
       (more rs r, record { standing = (st .0, st .1); ends = omega arith; evicts = omega arith; told = omega arith })
 
   -- the walk has come to `end`
   module _ {end y t : ℕ} (ws : Walks f g from k end y t) where
     last-of : (rs : Rules) (r : Rule) → from < end → (rest : Rules) → Walk f g from end y t rs r rest → Last f from end
-    unfolding size Stands
+    unfolding size EncodedAt
     last-of rs r lt nil w = absurd (omega (arith, w .ends))
     last-of rs r lt (more rest q) w =
         let h = w .ends in
         record { before = rest; child = q; stands = w .standing .1; ends = omega arith }
 
     pub last : Subtree f from k → NoLeaf (f (from + k - 1) .what) → from < end → Last f from end
-    unfolding size Stands
+    unfolding size EncodedAt
     last sub other lt = by (sub .rule) (sub .sized) (sub .stands)
       where
-        by : (r : Rule) → size r ≡ k → Stands r f from → Last f from end
+        by : (r : Rule) → size r ≡ k → EncodedAt r f from → Last f from end
         by (leaf l) e st =
             let p : from + k - 1 ≡ from = omega arith in
             absurd (other l (rw p (st .0)))
@@ -77,15 +77,15 @@ module _ (f : ℕ → Cell) (g : ℕ → Bool) (from k : ℕ) where
     -- the cell before `end` says z
     module _ {z : ℕ} (says : z ≡ f (end - 1) .size) where
       next-of : (b : Bool) {y′ : ℕ} (rs : Rules) (r : Rule) → from < end → Answered f g (end - z) z b → y′ ≡ cond b (suc y) y → (rest : Rules) → Walk f g from end y t rs r rest → (rest : Rules) × Walk f g from (end - z) y′ (t + 1) rs r rest
-      unfolding size Stands evictBy
+      unfolding size EncodedAt evictBy
       next-of b rs r lt ans ey nil w = absurd (omega (arith, w .ends))
       next-of b {y′} rs r lt ans ey (more rest q) w =
           let h = w .ends in
           let pe : from + sizes rest + size q - 1 ≡ end - 1 = omega arith in
           let pq : size q ≡ z = sym (rw pe at (root-size q f (from + sizes rest) (w .standing .1))) ∙ sym says in
           let pf : from + sizes rest ≡ end - z = omega arith in
-          let st : Stands q f (end - z) = rw pf at (w .standing .1) in
-          let e : y + yeses (b ∷ answersBy g rest from) ≡ yeses (answersBy g (more rs r) from) = rw (ans q pq st, ← pf) (w .evicts) in (
+          let st : EncodedAt q f (end - z) = rw pf at (w .standing .1) in
+          let e : y + countTrue (b ∷ answersBy g rest from) ≡ countTrue (answersBy g (more rs r) from) = rw (ans q pq st, ← pf) (w .evicts) in (
             rest,
             record {
               standing = w .standing .0;
@@ -99,14 +99,14 @@ module _ (f : ℕ → Cell) (g : ℕ → Bool) (from k : ℕ) where
       pub walks-next : from < end → (b : Bool) {y′ : ℕ} → Answered f g (end - z) z b → y′ ≡ cond b (suc y) y → Walks f g from k (end - z) y′ (t + 1)
       walks-next lt b ans ey j rs r e st = let (rest, w) = ws j rs r e st in next-of b rs r lt ans ey rest w
 
-    done-of : (rs : Rules) (r : Rule) → end ≤ from → (rest : Rules) → Walk f g from end y t rs r rest → (yeses (answersBy g (more rs r) from) ≡ y) × (length (answersBy g (more rs r) from) ≡ t)
-    unfolding size evictBy yeses
+    done-of : (rs : Rules) (r : Rule) → end ≤ from → (rest : Rules) → Walk f g from end y t rs r rest → (countTrue (answersBy g (more rs r) from) ≡ y) × (length (answersBy g (more rs r) from) ≡ t)
+    unfolding size evictBy countTrue
     done-of rs r le nil w = (omega (arith, w .evicts), omega (arith, w .told))
     done-of rs r le (more rest q) w = absurd (omega (arith, w .ends, size-pos q))
 
     -- all are asked
-    pub join-done : {m : Meaning} {b : Bool} → m ≡ f (from + k - 1) .what → NoLeaf m → end ≤ from → ((j : Join) (bs : List Bool) → m ≡ aJoin j → yeses bs ≡ y → length bs ≡ t → b ≡ joinSays j bs) → Answered f g from k b
-    unfolding size Stands evictBy
+    pub join-done : {m : Meaning} {b : Bool} → m ≡ f (from + k - 1) .what → NoLeaf m → end ≤ from → ((j : Join) (bs : List Bool) → m ≡ aJoin j → countTrue bs ≡ y → length bs ≡ t → b ≡ joinSays j bs) → Answered f g from k b
+    unfolding size EncodedAt evictBy
     join-done p other le says (leaf l) e st =
         let q : from ≡ from + k - 1 = omega arith in
         absurd (other l (p ∙ (rw q at (st .0))))
@@ -118,7 +118,7 @@ module _ (f : ℕ → Cell) (g : ℕ → Bool) (from k : ℕ) where
 
   -- a leaf has no children: it is known by its meaning, or by its one cell
   pub leaf-done : {m : Meaning} {b : Bool} → m ≡ f (from + k - 1) .what → NoJoin m → ((l : Leaf) → m ≡ aLeaf l → b ≡ g (from + k - 1)) → Answered f g from k b
-  unfolding size Stands evictBy
+  unfolding size EncodedAt evictBy
   leaf-done {b = b} p other says (leaf l) e st =
       let q : from + k - 1 ≡ from = omega arith in
       rw q at (says l (p ∙ (rw (sym q) at (st .0))))
@@ -127,7 +127,7 @@ module _ (f : ℕ → Cell) (g : ℕ → Bool) (from k : ℕ) where
       absurd (other j (p ∙ (rw q at (st .2))))
 
   pub one-done : {b : Bool} → k ≡ 1 → b ≡ g from → Answered f g from k b
-  unfolding size Stands evictBy
+  unfolding size EncodedAt evictBy
   one-done one says (leaf l) e st = says
   one-done one says (node j rs r) e st = absurd (omega (arith, size-pos r))
 

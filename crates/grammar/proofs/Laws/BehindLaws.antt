@@ -13,7 +13,7 @@ use Rattle.tokens.specs.declared.Token.the-variants.{End, Open, Close, Comma, A
 use Rattle.tokens.specs.declared.Next.{Next}
 use Rattle.tokens.specs.declared.Next.the-variants.{Off, To}
 use Rattle.tokens.specs.Token.{placeOf, nextOf, tokenAt, tokensFrom}
-use Rattle.tokens.specs.Inner.Bounds.{behind, Lexed}
+use Rattle.tokens.specs.Inner.Bounds.{nextOfClass, Lexed}
 use Rattle.tokens.proofs.Laws.TokenLaws.{lexed}
 use Rattle.grammar.specs.Grammar.{tokenKind, missing, after, firstPlace}
 use Rattle.grammar.proofs.Laws.TokenListLaws.{Signed, signed, first-place, after-off}
@@ -30,8 +30,8 @@ tested k i {n} {e} h = go (eqb k i) refl h
 abbrev Found : ℕ → ℕ → Token → Type 0
 Found k e t = (tokenKind t ≡ k) × (nextOf t ≡ To e) × (k ≤ comma → e ≡ placeOf t + 1)
 
-found : (len at k : ℕ) (t : Token) {e : ℕ} → Lexed len at t → behind k t ≡ To e → Found k e t
-unfolding behind nextOf placeOf
+found : (len at k : ℕ) (t : Token) {e : ℕ} → Lexed len at t → nextOfClass k t ≡ To e → Found k e t
+unfolding nextOfClass nextOf placeOf
 found len at k (End p) l h = let z : _≡_ {A = ℕ} 0 1 = cc in absurd (omega arith)
 found len at k (Open p n) l h = let q = tested k openBracket h in (sym (q .0), ap To (q .1), λ _. omega (arith, q .1))
 found len at k (Close p n) l h = let q = tested k closeBracket h in (sym (q .0), ap To (q .1), λ _. omega (arith, q .1))
@@ -42,8 +42,8 @@ found len at k (Word p a b v n) l h = let z : _≡_ {A = ℕ} 0 1 = cc in absurd
 found len at k (Fault f) l h = let z : _≡_ {A = ℕ} 0 1 = cc in absurd (omega arith)
 
 -- it is of another
-not-found : (k : ℕ) (t : Token) → openBracket ≤ k → k ≤ bar → behind k t ≡ Off → tokenKind t ≡ k → ⊥
-unfolding behind
+not-found : (k : ℕ) (t : Token) → openBracket ≤ k → k ≤ bar → nextOfClass k t ≡ Off → tokenKind t ≡ k → ⊥
+unfolding nextOfClass
 not-found k (End p) a b h q = omega arith
 not-found k (Open p n) a b h q = let z : _≡_ {A = ℕ} 0 1 = cc in omega arith
 not-found k (Close p n) a b h q = let z : _≡_ {A = ℕ} 0 1 = cc in omega arith
@@ -54,7 +54,7 @@ not-found k (Word p i j v n) a b h q = omega arith
 not-found k (Fault f) a b h q = omega arith
 
 -- what the test said at a position
-module _ (s : List ℕ) (at k : ℕ) {r : Next} (e : r ≡ behind k (tokenAt s at)) where
+module _ (s : List ℕ) (at k : ℕ) {r : Next} (e : r ≡ nextOfClass k (tokenAt s at)) where
   pub test-off : openBracket ≤ k → k ≤ bar → r ≡ Off → after k (tokensFrom s at) ≡ missing
   test-off a b h = after-off s at refl k (not-found k (tokenAt s at) a b (sym e ∙ h))
 

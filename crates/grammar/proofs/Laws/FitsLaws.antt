@@ -23,7 +23,7 @@ use Rattle.image.specs.Encode.{encode, Fits}
 use Rattle.image.proofs.Laws.EncodeLaws.{length-encode}
 use Rattle.image.specs.Decode.{decode}
 use Rattle.image.proofs.Laws.ImageLaws.{encode-bytes, decode-encode}
-use Rattle.grammar.specs.Grammar.{firstPlace, Got, got, bad, orIn}
+use Rattle.grammar.specs.Grammar.{firstPlace, ParseResult, got, bad, orIn}
 use Rattle.grammar.specs.Reading.{Read, rule, refused, atEnd, ended, parseOf, scannedOf, readOf}
 use Rattle.grammar.proofs.Laws.AsciiLaws.{text-ascii}
 use Rattle.grammar.proofs.Laws.TakenLaws.{nodesFor, bytesFor, MadeRule, Holds, or-made}
@@ -59,7 +59,7 @@ ReadFits (rule r) = Fits r
 ReadFits (refused f) = Unit {0}
 
 module _ (s : List ℕ) (short : length s ≤ 2048) (low : allAscii s ≡ true) where
-  ended-fits : (g : Got) → Holds (MadeRule s (tokensFrom s 0)) g → ReadFits (ended g)
+  ended-fits : (g : ParseResult) → Holds (MadeRule s (tokensFrom s 0)) g → ReadFits (ended g)
   ended-fits (got r us) m = go (atEnd us)
     where
       go : (v : Bool) → ReadFits (cond v (rule r) (refused (refusal trailingToken (firstPlace us))))

@@ -6,39 +6,11 @@ use Prim.Native.Nat.{ℕ, zero, suc, _+_, _-_, _*_, _≤_, _<_}
 use native.Mathlib.Omega.{arith}
 use lib.ListN.{length}
 use Rattle.refusals.specs.declared.Refusal.{Refusal}
-use Rattle.refusals.specs.Refusals.{refusal, openBracket}
+use Rattle.refusals.specs.Refusals.{refusal, bracketExpected}
 use Rattle.tokens.specs.declared.Token.{Token}
 use Rattle.tokens.specs.Token.{tokensFrom}
 use Rattle.rules.specs.Rule.{Join, all, any, Rule, node, Rules, nil, more}
-use Rattle.grammar.specs.Grammar.{
-  closeSign,
-  commaSign,
-  andSign,
-  orSign,
-  rest,
-  missing,
-  after,
-  firstPlace,
-  Head,
-  aLeaf,
-  aGroup,
-  aList,
-  refused,
-  headIn,
-  Got,
-  got,
-  bad,
-  onto,
-  onRest,
-  closeAfter,
-  byHead,
-  orIn,
-  orMore,
-  andIn,
-  andMore,
-  primaryIn,
-  listMore,
-}
+use Rattle.grammar.specs.Grammar.{closeSign, commaSign, andSign, orSign, rest, missing, after, firstPlace, PrimaryStart, aLeaf, aGroup, aList, refused, primaryStart, ParseResult, got, bad, onto, onRest, closeAfter, byStart, orIn, orMore, andIn, andMore, primaryIn, listMore}
 use Rattle.grammar.specs.Reading.{ended, parseOf}
 use Rattle.grammar.specs.Inner.Rules.{headRest, leftOf, orOf, andOf, primaryOf, orRest, andRest, listRest}
 use Rattle.grammar.proofs.Laws.TakenLaws.{Sign, by-after, on-rest, Begun, head-begun, MadeRule, Holds, or-made, and-made, primary-made}
@@ -47,26 +19,26 @@ use Rattle.grammar.proofs.Laws.TakenLaws.{Sign, by-after, on-rest, Begu
 rest-fewer : (vs : List Token) {us : List Token} {n : ℕ} → length vs < n → rest vs ≡ rest us → length us < n
 rest-fewer vs {us} l e = let i : vs ≡ us = cc in rw i at l
 
-begun-fewer : (s : List ℕ) (ts : List Token) (h : Head) {us : List Token} → Begun s ts h → headRest h ≡ rest us → length us < length ts
+begun-fewer : (s : List ℕ) (ts : List Token) (h : PrimaryStart) {us : List Token} → Begun s ts h → headRest h ≡ rest us → length us < length ts
 begun-fewer s ts (aLeaf l vs) b e = rest-fewer vs (b .taken .fewer) e
 begun-fewer s ts (aGroup vs) b e = rest-fewer vs (b .fewer) e
 begun-fewer s ts (aList j p vs) b e = rest-fewer vs (b .0 .fewer) e
 begun-fewer s ts (refused f) b e = let z : _≡_ {A = ℕ} 0 1 = cc in absurd (omega arith)
 
-made-fewer : (s : List ℕ) (ts : List Token) (g : Got) {r : Rule} {us : List Token} → Holds (MadeRule s ts) g → g ≡ got r us → length us < length ts
+made-fewer : (s : List ℕ) (ts : List Token) (g : ParseResult) {r : Rule} {us : List Token} → Holds (MadeRule s ts) g → g ≡ got r us → length us < length ts
 made-fewer s ts g m e = let n = rw e at m in n .taken .fewer
 
-pub made-left : (s : List ℕ) (ts : List Token) (g : Got) → Holds (MadeRule s ts) g → leftOf g ≤ length ts - 1
+pub made-left : (s : List ℕ) (ts : List Token) (g : ParseResult) → Holds (MadeRule s ts) g → leftOf g ≤ length ts - 1
 made-left s ts (got r us) m = omega (arith, m .taken .fewer)
 made-left s ts (bad f) m = omega arith
 
-pub onto-left : (j : Join) (l : Rule) (g : Got) → leftOf (onto j l g) ≡ leftOf g
+pub onto-left : (j : Join) (l : Rule) (g : ParseResult) → leftOf (onto j l g) ≡ leftOf g
 onto-left j l (got r us) = refl
 onto-left j l (bad f) = refl
 
 module _ (s : List ℕ) where
-  pub head-fewer : (d : ℕ) (ts : List Token) {us : List Token} → headRest (headIn s d ts) ≡ rest us → length us < length ts
-  head-fewer d ts e = begun-fewer s ts (headIn s d ts) (head-begun s d ts) e
+  pub head-fewer : (d : ℕ) (ts : List Token) {us : List Token} → headRest (primaryStart s d ts) ≡ rest us → length us < length ts
+  head-fewer d ts e = begun-fewer s ts (primaryStart s d ts) (head-begun s d ts) e
 
   pub or-fewer : (f d : ℕ) (ts : List Token) {r : Rule} {us : List Token} → orIn f s d ts ≡ got r us → length us < length ts
   or-fewer f d ts e = made-fewer s ts (orIn f s d ts) (or-made s f d ts) e
@@ -78,25 +50,25 @@ module _ (s : List ℕ) where
   primary-fewer f d ts e = made-fewer s ts (primaryIn f s d ts) (primary-made s f d ts) e
 
   -- a chain's operand leaves at most these, and so does what goes on behind it
-  turn-left : (k : ℕ) (j : Join) (operand : List Token → Got) (again : Got → Got) → Sign k → ((vs : List Token) → Holds (MadeRule s vs) (operand vs)) → ((g : Got) → leftOf (again g) ≤ leftOf g) → (l : Rule) (us : List Token) → leftOf (onRest (after k us) (λ vs. again (onto j l (operand vs))) (got l us)) ≤ length us
+  turn-left : (k : ℕ) (j : Join) (operand : List Token → ParseResult) (again : ParseResult → ParseResult) → Sign k → ((vs : List Token) → Holds (MadeRule s vs) (operand vs)) → ((g : ParseResult) → leftOf (again g) ≤ leftOf g) → (l : Rule) (us : List Token) → leftOf (onRest (after k us) (λ vs. again (onto j l (operand vs))) (got l us)) ≤ length us
   turn-left k j operand again p m h l us =
       on-rest (λ g. leftOf g ≤ length us) k us _ (got l us) p
       (λ vs t. omega (arith, h (onto j l (operand vs)), onto-left j l (operand vs), made-left s vs (operand vs) (m vs)))
       (omega arith)
 
-  pub or-left : (f d : ℕ) (g : Got) → leftOf (orMore f s d g) ≤ leftOf g
+  pub or-left : (f d : ℕ) (g : ParseResult) → leftOf (orMore f s d g) ≤ leftOf g
   unfolding orIn
   or-left zero d g = omega arith
   or-left (suc f) d (bad r) = omega arith
   or-left (suc f) d (got l us) = turn-left orSign any (andIn f s d) (orMore f s d) (omega arith) (and-made s f d) (or-left f d) l us
 
-  pub and-left : (f d : ℕ) (g : Got) → leftOf (andMore f s d g) ≤ leftOf g
+  pub and-left : (f d : ℕ) (g : ParseResult) → leftOf (andMore f s d g) ≤ leftOf g
   unfolding orIn
   and-left zero d g = omega arith
   and-left (suc f) d (bad r) = omega arith
   and-left (suc f) d (got l us) = turn-left andSign all (primaryIn f s d) (andMore f s d) (omega arith) (primary-made s f d) (and-left f d) l us
 
-  pub list-left : (f d : ℕ) (j : Join) (rs : Rules) (g : Got) → leftOf (listMore f s d j rs g) ≤ leftOf g
+  pub list-left : (f d : ℕ) (j : Join) (rs : Rules) (g : ParseResult) → leftOf (listMore f s d j rs g) ≤ leftOf g
   unfolding orIn
   list-left zero d j rs g = omega arith
   list-left (suc f) d j rs (bad r) = omega arith
@@ -106,22 +78,22 @@ module _ (s : List ℕ) where
       (on-rest (λ g. leftOf g ≤ length us) closeSign us _ _ (omega arith) (λ vs t. omega arith) (omega arith))
 
 -- ---- with calls enough their bound does not matter
-head-same : (h : Head) (i i′ : List Token → Got) (l l′ : Join → List Token → Got) → ((us : List Token) → headRest h ≡ rest us → i us ≡ i′ us) → ((j : Join) (us : List Token) → headRest h ≡ rest us → l j us ≡ l′ j us) → byHead h i l ≡ byHead h i′ l′
+head-same : (h : PrimaryStart) (i i′ : List Token → ParseResult) (l l′ : Join → List Token → ParseResult) → ((us : List Token) → headRest h ≡ rest us → i us ≡ i′ us) → ((j : Join) (us : List Token) → headRest h ≡ rest us → l j us ≡ l′ j us) → byStart h i l ≡ byStart h i′ l′
 head-same (aLeaf x us) i i′ l l′ p q = refl
 head-same (aGroup us) i i′ l l′ p q = ap closeAfter (p us refl)
 head-same (aList j place us) i i′ l l′ p q = ap (onRest (after closeSign us) _) (q j us refl)
 head-same (refused f) i i′ l l′ p q = refl
 
-rest-same : (k : ℕ) (us : List Token) (x y : List Token → Got) (o : Got) → Sign k → ((vs : List Token) → length vs < length us → x vs ≡ y vs) → onRest (after k us) x o ≡ onRest (after k us) y o
+rest-same : (k : ℕ) (us : List Token) (x y : List Token → ParseResult) (o : ParseResult) → Sign k → ((vs : List Token) → length vs < length us → x vs ≡ y vs) → onRest (after k us) x o ≡ onRest (after k us) y o
 rest-same k us x y o p h = by-after (λ r. onRest r x o ≡ onRest r y o) k us p refl (λ vs t. h vs (t .fewer))
 
 module _ (s : List ℕ) where
   -- what goes on behind what was read of ts
-  then-same : (ts : List Token) (x y : Got) (a b : Got → Got) → Holds (MadeRule s ts) x → x ≡ y → ((g : Got) → leftOf g ≤ length ts - 1 → a g ≡ b g) → a x ≡ b y
+  then-same : (ts : List Token) (x y : ParseResult) (a b : ParseResult → ParseResult) → Holds (MadeRule s ts) x → x ≡ y → ((g : ParseResult) → leftOf g ≤ length ts - 1 → a g ≡ b g) → a x ≡ b y
   then-same ts x y a b m e q = q x (made-left s ts x m) ∙ ap b e
 
   -- a chain's turn
-  turn-same : (k : ℕ) (j : Join) (x y : List Token → Got) (a b : Got → Got) → Sign k → ((vs : List Token) → Holds (MadeRule s vs) (x vs)) → (l : Rule) (us : List Token) → ((vs : List Token) → length vs < length us → x vs ≡ y vs) → ((g : Got) → leftOf g < length us → a g ≡ b g) → onRest (after k us) (λ vs. a (onto j l (x vs))) (got l us) ≡ onRest (after k us) (λ vs. b (onto j l (y vs))) (got l us)
+  turn-same : (k : ℕ) (j : Join) (x y : List Token → ParseResult) (a b : ParseResult → ParseResult) → Sign k → ((vs : List Token) → Holds (MadeRule s vs) (x vs)) → (l : Rule) (us : List Token) → ((vs : List Token) → length vs < length us → x vs ≡ y vs) → ((g : ParseResult) → leftOf g < length us → a g ≡ b g) → onRest (after k us) (λ vs. a (onto j l (x vs))) (got l us) ≡ onRest (after k us) (λ vs. b (onto j l (y vs))) (got l us)
   turn-same k j x y a b p m l us e q =
       rest-same k us _ _ (got l us) p
       (λ vs t. then-same vs (x vs) (y vs) (λ g. a (onto j l g)) (λ g. b (onto j l g)) (m vs) (e vs t) (λ g i. q (onto j l g) (omega (arith, onto-left j l g))))
@@ -136,7 +108,7 @@ module _ (s : List ℕ) where
         then-same ts (andIn f s d ts) (andIn g s d ts) (orMore f s d) (orMore g s d) (and-made s f d ts)
         (and-same f g d ts (omega arith) (omega arith)) (λ x l. or-more-same f g d x (omega arith) (omega arith))
 
-    or-more-same : (f g d : ℕ) (x : Got) → 3 * leftOf x + 1 ≤ f → 3 * leftOf x + 1 ≤ g → orMore f s d x ≡ orMore g s d x
+    or-more-same : (f g d : ℕ) (x : ParseResult) → 3 * leftOf x + 1 ≤ f → 3 * leftOf x + 1 ≤ g → orMore f s d x ≡ orMore g s d x
     or-more-same zero g d x h i = absurd (omega arith)
     or-more-same (suc f) zero d x h i = absurd (omega arith)
     or-more-same (suc f) (suc g) d (bad r) h i = refl
@@ -151,7 +123,7 @@ module _ (s : List ℕ) where
         then-same ts (primaryIn f s d ts) (primaryIn g s d ts) (andMore f s d) (andMore g s d) (primary-made s f d ts)
         (primary-same f g d ts (omega arith) (omega arith)) (λ x l. and-more-same f g d x (omega arith) (omega arith))
 
-    and-more-same : (f g d : ℕ) (x : Got) → 3 * leftOf x + 1 ≤ f → 3 * leftOf x + 1 ≤ g → andMore f s d x ≡ andMore g s d x
+    and-more-same : (f g d : ℕ) (x : ParseResult) → 3 * leftOf x + 1 ≤ f → 3 * leftOf x + 1 ≤ g → andMore f s d x ≡ andMore g s d x
     and-more-same zero g d x h i = absurd (omega arith)
     and-more-same (suc f) zero d x h i = absurd (omega arith)
     and-more-same (suc f) (suc g) d (bad r) h i = refl
@@ -163,13 +135,13 @@ module _ (s : List ℕ) where
     primary-same zero g d ts h i = absurd (omega arith)
     primary-same (suc f) zero d ts h i = absurd (omega arith)
     primary-same (suc f) (suc g) d ts h i =
-        head-same (headIn s d ts) _ _ _ _
+        head-same (primaryStart s d ts) _ _ _ _
         (λ us e. let l = head-fewer s d ts e in or-same f g (d + 1) us (omega arith) (omega arith))
         (λ j us e. let l = head-fewer s d ts e in
         then-same us (orIn f s (d + 1) us) (orIn g s (d + 1) us) (listMore f s d j nil) (listMore g s d j nil) (or-made s f (d + 1) us)
         (or-same f g (d + 1) us (omega arith) (omega arith)) (λ x k. list-more-same f g d j nil x (omega arith) (omega arith)))
 
-    list-more-same : (f g d : ℕ) (j : Join) (rs : Rules) (x : Got) → 3 * leftOf x + 1 ≤ f → 3 * leftOf x + 1 ≤ g → listMore f s d j rs x ≡ listMore g s d j rs x
+    list-more-same : (f g d : ℕ) (j : Join) (rs : Rules) (x : ParseResult) → 3 * leftOf x + 1 ≤ f → 3 * leftOf x + 1 ≤ g → listMore f s d j rs x ≡ listMore g s d j rs x
     list-more-same zero g d j rs x h i = absurd (omega arith)
     list-more-same (suc f) zero d j rs x h i = absurd (omega arith)
     list-more-same (suc f) (suc g) d j rs (bad r) h i = refl
@@ -193,7 +165,7 @@ module _ (s : List ℕ) where
       unfolding primaryOf
       primary-fuel h = primary-same f (3 * length ts + 1) d ts h (omega arith)
 
-    module _ (g : Got) (h : 3 * leftOf g + 1 ≤ f) where
+    module _ (g : ParseResult) (h : 3 * leftOf g + 1 ≤ f) where
       pub or-more-fuel : orMore f s d g ≡ orRest s d g
       unfolding orRest
       or-more-fuel = or-more-same f (3 * leftOf g + 1) d g h (omega arith)
@@ -269,12 +241,12 @@ module _ (s : List ℕ) (d : ℕ) where
       (or-fuel s f (d + 1) us h) (λ g l. list-more-fuel s f d g (omega arith) j rs)
 
   -- a primary
-  pub primary-of : (ts : List Token) → primaryOf s d ts ≡ byHead (headIn s d ts) (λ us. orOf s (d + 1) us) (λ j us. listRest s d j nil (orOf s (d + 1) us))
+  pub primary-of : (ts : List Token) → primaryOf s d ts ≡ byStart (primaryStart s d ts) (λ us. orOf s (d + 1) us) (λ j us. listRest s d j nil (orOf s (d + 1) us))
   unfolding orIn
   primary-of ts =
       let f = 3 * length ts in
       sym (primary-fuel s (suc f) d ts (omega arith)) ∙
-      head-same (headIn s d ts) _ _ _ _
+      head-same (primaryStart s d ts) _ _ _ _
       (λ us e. or-fuel s f (d + 1) us (omega (arith, head-fewer s d ts e)))
       (λ j us e. args-same f j nil us (omega (arith, head-fewer s d ts e)))
 
@@ -285,7 +257,7 @@ module _ (s : List ℕ) (d : ℕ) where
     list-bad r = refl
 
     module _ (r : Rule) (us : List Token) where
-      list-step : listRest s d j rs (got r us) ≡ onRest (after commaSign us) (λ vs. listRest s d j (more rs r) (orOf s (d + 1) vs)) (onRest (after closeSign us) (λ vs. got (node j rs r) vs) (bad (refusal openBracket (firstPlace us))))
+      list-step : listRest s d j rs (got r us) ≡ onRest (after commaSign us) (λ vs. listRest s d j (more rs r) (orOf s (d + 1) vs)) (onRest (after closeSign us) (λ vs. got (node j rs r) vs) (bad (refusal bracketExpected (firstPlace us))))
       unfolding orIn
       list-step =
           let f = 3 * length us in
@@ -298,7 +270,7 @@ module _ (s : List ℕ) (d : ℕ) where
       pub list-end : {vs : List Token} → after commaSign us ≡ missing → after closeSign us ≡ rest vs → listRest s d j rs (got r us) ≡ got (node j rs r) vs
       list-end e q = list-step ∙ rw (e, q)
 
-      pub list-open : after commaSign us ≡ missing → after closeSign us ≡ missing → listRest s d j rs (got r us) ≡ bad (refusal openBracket (firstPlace us))
+      pub list-open : after commaSign us ≡ missing → after closeSign us ≡ missing → listRest s d j rs (got r us) ≡ bad (refusal bracketExpected (firstPlace us))
       list-open e q = list-step ∙ rw (e, q)
 
 -- ---- a text's expression

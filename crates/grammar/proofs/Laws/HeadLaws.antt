@@ -20,23 +20,23 @@ use Rattle.tokens.specs.Token.{placeOf, nextOf, tokenAt, onward, tokensFrom}
 use Rattle.tokens.proofs.Laws.TokenLaws.{tokens-are, left-some}
 use Rattle.rules.specs.Rule.{named}
 use Rattle.grammar.specs.Grammar as grammar
-use Rattle.grammar.specs.Grammar.{tokenKind, openSign, aLeaf, aGroup, aList, refuse, headBy, headIn, functionOf}
+use Rattle.grammar.specs.Grammar.{tokenKind, openSign, aLeaf, aGroup, aList, refuse, startBy, primaryStart, functionOf}
 use Rattle.grammar.specs.Inner.Heads.{leafOf, joinOf, headOf, headNext, left, Begins}
 use Rattle.grammar.proofs.Laws.TokenListLaws.{tokens-next}
 use Rattle.grammar.specs.declared.Test.{Test}
 use Rattle.grammar.specs.declared.Combinator.{Combinator}
 use Rattle.grammar.specs.declared.Function.{Function}
 use Rattle.grammar.specs.declared.Function.the-variants.{OlderThan, Readable, Any, All, AtLeast, Unknown}
-use Rattle.grammar.specs.declared.Head.{Head}
-use Rattle.grammar.specs.declared.Head.the-variants.{Name, Leaf, Group, List as Listed, Refused}
+use Rattle.grammar.specs.declared.PrimaryStart.{PrimaryStart}
+use Rattle.grammar.specs.declared.PrimaryStart.the-variants.{Name, Leaf, Group, List as Listed, Refused}
 
 -- ---- what an answer keeps to, by its variant
 -- the text goes on at n, which lies at `lo` or behind it, with at most `most` tokens left
 abbrev pub Goes : List ℕ → ℕ → ℕ → ℕ → Type 0
 Goes s lo most n = (lo ≤ n) × (n ≤ length s) × (left s n ≤ most)
 
-module _ {s : List ℕ} {low lo most : ℕ} {g : grammar.Head} where
-  goes-to : {h : Head} {n : ℕ} → headNext h ≡ To n → g ≡ headOf s h → Goes s lo most n →
+module _ {s : List ℕ} {low lo most : ℕ} {g : grammar.PrimaryStart} where
+  goes-to : {h : PrimaryStart} {n : ℕ} → headNext h ≡ To n → g ≡ headOf s h → Goes s lo most n →
       ((a b m : ℕ) → h ≡ Name a b m → (low ≤ a) × (a ≤ b) × (b ≤ m)) → Begins s low lo most h g
   goes-to {h} {n} to e within names =
       record { says = sym e; on = λ m q. let same : n ≡ m = cc in rw (← same) within; name = names }
@@ -60,7 +60,7 @@ module _ {s : List ℕ} {low lo most : ℕ} {g : grammar.Head} where
   begins-list e within = goes-to refl e within (λ a b m q. let z : _≡_ {A = ℕ} 0 1 = cc in absurd (omega arith))
 
   -- a refusal at p, which is where the grammar has it
-  pub begins-refused : {h : Head} {n p q : ℕ} → h ≡ Refused (refusal n p) → p ≡ q → g ≡ refuse n q → Begins s low lo most h g
+  pub begins-refused : {h : PrimaryStart} {n p q : ℕ} → h ≡ Refused (refusal n p) → p ≡ q → g ≡ refuse n q → Begins s low lo most h g
   begins-refused {h} {n} {p} {q} e same r =
       record {
         says = ap (headOf s) e ∙ ap (refuse n) same ∙ sym r;
@@ -69,7 +69,7 @@ module _ {s : List ℕ} {low lo most : ℕ} {g : grammar.Head} where
       }
 
   -- wider bounds
-  pub begins-within : {h : Head} {low′ lo′ most′ : ℕ} → Begins s low lo most h g → low′ ≤ low → lo′ ≤ lo → most ≤ most′ → Begins s low′ lo′ most′ h g
+  pub begins-within : {h : PrimaryStart} {low′ lo′ most′ : ℕ} → Begins s low lo most h g → low′ ≤ low → lo′ ≤ lo → most ≤ most′ → Begins s low′ lo′ most′ h g
   begins-within b x y z =
       record {
         says = b .says;
@@ -79,7 +79,7 @@ module _ {s : List ℕ} {low lo most : ℕ} {g : grammar.Head} where
 
 -- ---- the head by the token that stands there
 -- neither a bracket nor a word
-none-by : (s : List ℕ) (d : ℕ) (t : Token) (ts : List Token) → (tokenKind t ≡ openSign → ⊥) → (tokenKind t ≡ 6 → ⊥) → headBy s d t ts ≡ refuse noExpression (placeOf t)
+none-by : (s : List ℕ) (d : ℕ) (t : Token) (ts : List Token) → (tokenKind t ≡ openSign → ⊥) → (tokenKind t ≡ 6 → ⊥) → startBy s d t ts ≡ refuse noExpression (placeOf t)
 unfolding placeOf
 none-by s d (End p) ts o w = refl
 none-by s d (Open p n) ts o w = absurd (o refl)
@@ -91,18 +91,18 @@ none-by s d (Word p a b q n) ts o w = absurd (w refl)
 none-by s d (Fault f) ts o w = refl
 
 none-onward : (s : List ℕ) (d : ℕ) (t : Token) (n : Next) (more : ℕ → List Token) → (tokenKind t ≡ openSign → ⊥) → (tokenKind t ≡ 6 → ⊥) →
-    headIn s d (onward t n more) ≡ refuse noExpression (placeOf t)
-unfolding headIn
+    primaryStart s d (onward t n more) ≡ refuse noExpression (placeOf t)
+unfolding primaryStart
 none-onward s d t Off more o w = none-by s d t [] o w
 none-onward s d t (To n) more o w = none-by s d t (more n) o w
 
 module _ (s : List ℕ) (d at : ℕ) {t : Token} (e : tokenAt s at ≡ t) where
-  pub head-none : (tokenKind t ≡ openSign → ⊥) → (tokenKind t ≡ 6 → ⊥) → headIn s d (tokensFrom s at) ≡ refuse noExpression (placeOf t)
-  head-none o w = ap (headIn s d) (tokens-are s at e) ∙ none-onward s d t (nextOf t) (tokensFrom s) o w
+  pub head-none : (tokenKind t ≡ openSign → ⊥) → (tokenKind t ≡ 6 → ⊥) → primaryStart s d (tokensFrom s at) ≡ refuse noExpression (placeOf t)
+  head-none o w = ap (primaryStart s d) (tokens-are s at e) ∙ none-onward s d t (nextOf t) (tokensFrom s) o w
 
-  pub head-next : {n : ℕ} → nextOf t ≡ To n → headIn s d (tokensFrom s at) ≡ headBy s d t (tokensFrom s n)
-  unfolding headIn
-  head-next h = ap (headIn s d) (tokens-next s at e h)
+  pub head-next : {n : ℕ} → nextOf t ≡ To n → primaryStart s d (tokensFrom s at) ≡ startBy s d t (tokensFrom s n)
+  unfolding primaryStart
+  head-next h = ap (primaryStart s d) (tokens-next s at e h)
 
 -- ---- the test whether 64 brackets stand open: of d against a bound k
 module _ {d k : ℕ} where
@@ -159,9 +159,9 @@ module _ {n : Called} {ns : List Called} (a : Among (n ∷ ns)) {r : Bool} (e : 
   found h = sym (rw (sym e ∙ h)) ∙ a .says
 
 -- ---- what the parser takes from an answer
-module _ {s : List ℕ} (at : ℕ) {low : ℕ} {h : Head} {g : grammar.Head} (b : Begins s low (at + 1) (left s at - 1) h g) where
+module _ {s : List ℕ} (at : ℕ) {low : ℕ} {h : PrimaryStart} {g : grammar.PrimaryStart} (b : Begins s low (at + 1) (left s at - 1) h g) where
   -- what the grammar has
-  pub head-is : {h′ : Head} → h ≡ h′ → g ≡ headOf s h′
+  pub head-is : {h′ : PrimaryStart} → h ≡ h′ → g ≡ headOf s h′
   head-is e = sym (b .says) ∙ ap (headOf s) e
 
   -- where the text goes on

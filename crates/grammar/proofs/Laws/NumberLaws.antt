@@ -16,31 +16,7 @@ use Rattle.tokens.specs.Inner.Bounds.{Lexed}
 use Rattle.tokens.proofs.Laws.TokenLaws.{by-cond, lexed}
 use Rattle.rules.specs.Rule.{Join, all, any, Rule, Rules, nil, more}
 use Rattle.grammar.specs.Grammar as grammar
-use Rattle.grammar.specs.Grammar.{
-  closeSign,
-  commaSign,
-  andSign,
-  orSign,
-  after,
-  Head,
-  aLeaf,
-  aGroup,
-  aList,
-  headIn,
-  Got,
-  got,
-  bad,
-  onto,
-  onRest,
-  closeAfter,
-  byHead,
-  orIn,
-  orMore,
-  andIn,
-  andMore,
-  primaryIn,
-  listMore,
-}
+use Rattle.grammar.specs.Grammar.{closeSign, commaSign, andSign, orSign, after, PrimaryStart, aLeaf, aGroup, aList, primaryStart, ParseResult, got, bad, onto, onRest, closeAfter, byStart, orIn, orMore, andIn, andMore, primaryIn, listMore}
 use Rattle.grammar.specs.Reading.{Read, rule, refused, atEnd, ended, parseOf, scannedOf, readOf}
 use Rattle.grammar.specs.Inner.Rules.{leftOf}
 use Rattle.grammar.proofs.Laws.TakenLaws.{Sign, Numbered, Begun, head-begun, MadeRule, Holds, on-rest, or-made, and-made, primary-made}
@@ -48,30 +24,30 @@ use Rattle.grammar.proofs.Laws.GrammarLaws.{made-left, onto-left}
 
 -- ---- an expression
 -- it is read, or refused with such a number
-abbrev GotOr : Got → Type 0
+abbrev GotOr : ParseResult → Type 0
 GotOr (got r us) = Unit {0}
 GotOr (bad f) = Numbered f
 
 -- joined to the left side of a chain
-onto-number : (j : Join) (l : Rule) (g : Got) → GotOr g → GotOr (onto j l g)
+onto-number : (j : Join) (l : Rule) (g : ParseResult) → GotOr g → GotOr (onto j l g)
 onto-number j l (got r us) n = tt
 onto-number j l (bad f) n = n
 
 -- a bracket that closes
-closed-number : (g : Got) → GotOr g → GotOr (closeAfter g)
+closed-number : (g : ParseResult) → GotOr g → GotOr (closeAfter g)
 closed-number (got r us) n = on-rest GotOr closeSign us (λ vs. got r vs) _ (omega arith) (λ vs t. tt) (omega arith)
 closed-number (bad f) n = n
 
 module _ (s : List ℕ) where
   -- a primary, by how it begins
-  head-number : (ts : List Token) (h : Head) (inner : List Token → Got) (list : Join → List Token → Got) → Begun s ts h → ((us : List Token) → length us < length ts → GotOr (inner us)) → ((j : Join) (us : List Token) → length us < length ts → GotOr (list j us)) → GotOr (byHead h inner list)
+  head-number : (ts : List Token) (h : PrimaryStart) (inner : List Token → ParseResult) (list : Join → List Token → ParseResult) → Begun s ts h → ((us : List Token) → length us < length ts → GotOr (inner us)) → ((j : Join) (us : List Token) → length us < length ts → GotOr (list j us)) → GotOr (byStart h inner list)
   head-number ts (aLeaf l us) inner list b i e = tt
   head-number ts (aGroup us) inner list b i e = closed-number (inner us) (i us (b .fewer))
   head-number ts (aList j p us) inner list b i e = on-rest GotOr closeSign us _ (list j us) (omega arith) (λ vs t. omega arith) (e j us (b .0 .fewer))
   head-number ts (grammar.refused f) inner list b i e = b
 
   -- a chain's turn
-  turn-number : (k : ℕ) (j : Join) (x : List Token → Got) (a : Got → Got) → Sign k → ((vs : List Token) → Holds (MadeRule s vs) (x vs)) → (l : Rule) (us : List Token) → ((vs : List Token) → length vs < length us → GotOr (x vs)) → ((g : Got) → leftOf g < length us → GotOr g → GotOr (a g)) → GotOr (onRest (after k us) (λ vs. a (onto j l (x vs))) (got l us))
+  turn-number : (k : ℕ) (j : Join) (x : List Token → ParseResult) (a : ParseResult → ParseResult) → Sign k → ((vs : List Token) → Holds (MadeRule s vs) (x vs)) → (l : Rule) (us : List Token) → ((vs : List Token) → length vs < length us → GotOr (x vs)) → ((g : ParseResult) → leftOf g < length us → GotOr g → GotOr (a g)) → GotOr (onRest (after k us) (λ vs. a (onto j l (x vs))) (got l us))
   turn-number k j x a p m l us e q =
       on-rest GotOr k us _ (got l us) p
       (λ vs t. q (onto j l (x vs)) (omega (arith, onto-left j l (x vs), made-left s vs (x vs) (m vs))) (onto-number j l (x vs) (e vs (t .fewer))))
@@ -86,7 +62,7 @@ module _ (s : List ℕ) where
     or-number (suc f) d ts h =
         or-more-number f d (andIn f s d ts) (omega (arith, made-left s ts (andIn f s d ts) (and-made s f d ts))) (and-number f d ts (omega arith))
 
-    or-more-number : (f d : ℕ) (g : Got) → 3 * leftOf g + 1 ≤ f → GotOr g → GotOr (orMore f s d g)
+    or-more-number : (f d : ℕ) (g : ParseResult) → 3 * leftOf g + 1 ≤ f → GotOr g → GotOr (orMore f s d g)
     or-more-number zero d g h n = absurd (omega arith)
     or-more-number (suc f) d (bad r) h n = n
     or-more-number (suc f) d (got l us) h n =
@@ -98,7 +74,7 @@ module _ (s : List ℕ) where
     and-number (suc f) d ts h =
         and-more-number f d (primaryIn f s d ts) (omega (arith, made-left s ts (primaryIn f s d ts) (primary-made s f d ts))) (primary-number f d ts (omega arith))
 
-    and-more-number : (f d : ℕ) (g : Got) → 3 * leftOf g + 1 ≤ f → GotOr g → GotOr (andMore f s d g)
+    and-more-number : (f d : ℕ) (g : ParseResult) → 3 * leftOf g + 1 ≤ f → GotOr g → GotOr (andMore f s d g)
     and-more-number zero d g h n = absurd (omega arith)
     and-more-number (suc f) d (bad r) h n = n
     and-more-number (suc f) d (got l us) h n =
@@ -108,11 +84,11 @@ module _ (s : List ℕ) where
     primary-number : (f d : ℕ) (ts : List Token) → 3 * length ts + 1 ≤ f → GotOr (primaryIn f s d ts)
     primary-number zero d ts h = absurd (omega arith)
     primary-number (suc f) d ts h =
-        head-number ts (headIn s d ts) _ _ (head-begun s d ts)
+        head-number ts (primaryStart s d ts) _ _ (head-begun s d ts)
         (λ us t. or-number f (d + 1) us (omega arith))
         (λ j us t. list-more-number f d j nil (orIn f s (d + 1) us) (omega (arith, made-left s us (orIn f s (d + 1) us) (or-made s f (d + 1) us))) (or-number f (d + 1) us (omega arith)))
 
-    list-more-number : (f d : ℕ) (j : Join) (rs : Rules) (g : Got) → 3 * leftOf g + 1 ≤ f → GotOr g → GotOr (listMore f s d j rs g)
+    list-more-number : (f d : ℕ) (j : Join) (rs : Rules) (g : ParseResult) → 3 * leftOf g + 1 ≤ f → GotOr g → GotOr (listMore f s d j rs g)
     list-more-number zero d j rs g h n = absurd (omega arith)
     list-more-number (suc f) d j rs (bad r) h n = n
     list-more-number (suc f) d j rs (got r us) h n =
@@ -149,7 +125,7 @@ abbrev RuleOr : Read → Type 0
 RuleOr (rule r) = Unit {0}
 RuleOr (refused f) = Numbered f
 
-ended-number : (g : Got) → GotOr g → RuleOr (ended g)
+ended-number : (g : ParseResult) → GotOr g → RuleOr (ended g)
 ended-number (got r us) n = by-cond RuleOr (atEnd us) (λ _. tt) (λ _. omega arith)
 ended-number (bad f) n = n
 

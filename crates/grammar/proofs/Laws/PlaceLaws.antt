@@ -24,51 +24,7 @@ use Rattle.rules.specs.Rule.{Join, all, any, Rule, Rules, nil, more}
 use Rattle.grammar.specs.declared.Function.{Function}
 use Rattle.grammar.specs.declared.Function.the-variants.{OlderThan, Readable, Any, All, AtLeast, Unknown}
 use Rattle.grammar.specs.Grammar as grammar
-use Rattle.grammar.specs.Grammar.{
-  tokenKind,
-  openSign,
-  closeSign,
-  commaSign,
-  andSign,
-  orSign,
-  Rest,
-  rest,
-  missing,
-  restIf,
-  after,
-  firstPlace,
-  Head,
-  aLeaf,
-  aGroup,
-  aList,
-  closed,
-  dueIn,
-  whenDue,
-  valued,
-  olderThanHead,
-  readableHead,
-  afterComma,
-  atLeastHead,
-  functionOf,
-  callHead,
-  opened,
-  unquotedHead,
-  wordHead,
-  headIn,
-  Got,
-  got,
-  bad,
-  onto,
-  onRest,
-  closeAfter,
-  byHead,
-  orIn,
-  orMore,
-  andIn,
-  andMore,
-  primaryIn,
-  listMore,
-}
+use Rattle.grammar.specs.Grammar.{tokenKind, openSign, closeSign, commaSign, andSign, orSign, Rest, rest, missing, restIf, after, firstPlace, PrimaryStart, aLeaf, aGroup, aList, closed, expectedWord, requireWord, valued, olderThanStart, readableStart, afterComma, atLeastStart, functionOf, callStart, opened, unquotedStart, wordStart, primaryStart, ParseResult, got, bad, onto, onRest, closeAfter, byStart, orIn, orMore, andIn, andMore, primaryIn, listMore}
 use Rattle.grammar.specs.Reading.{Read, rule, refused, atEnd, ended, parseOf, scannedOf, readOf}
 
 -- ---- places of at most m: of tokens, of those left, and of a refusal
@@ -80,13 +36,13 @@ abbrev RestPlaced : ℕ → Rest → Type 0
 RestPlaced m (rest ts) = Placed m ts
 RestPlaced m missing = Unit {0}
 
-abbrev HeadPlaced : ℕ → Head → Type 0
+abbrev HeadPlaced : ℕ → PrimaryStart → Type 0
 HeadPlaced m (aLeaf l ts) = Placed m ts
 HeadPlaced m (aGroup ts) = Placed m ts
 HeadPlaced m (aList j p ts) = (p ≤ m) × Placed m ts
 HeadPlaced m (grammar.refused f) = f .place ≤ m
 
-abbrev GotPlaced : ℕ → Got → Type 0
+abbrev GotPlaced : ℕ → ParseResult → Type 0
 GotPlaced m (got r ts) = Placed m ts
 GotPlaced m (bad f) = f .place ≤ m
 
@@ -106,21 +62,21 @@ module _ (m : ℕ) where
   first-placed (t ∷ ts) h = h .0
 
   -- ---- how a primary begins
-  closed-placed : (r : Rest) (p : ℕ) (then : List Token → Head) → RestPlaced m r → p ≤ m → ((ts : List Token) → Placed m ts → HeadPlaced m (then ts)) → HeadPlaced m (closed r p then)
+  closed-placed : (r : Rest) (p : ℕ) (then : List Token → PrimaryStart) → RestPlaced m r → p ≤ m → ((ts : List Token) → Placed m ts → HeadPlaced m (then ts)) → HeadPlaced m (closed r p then)
   closed-placed (rest ts) p then h l f = f ts h
   closed-placed missing p then h l f = l
 
-  comma-placed : (r : Rest) (p : ℕ) (then : List Token → Head) → RestPlaced m r → p ≤ m → ((ts : List Token) → Placed m ts → HeadPlaced m (then ts)) → HeadPlaced m (afterComma r p then)
+  comma-placed : (r : Rest) (p : ℕ) (then : List Token → PrimaryStart) → RestPlaced m r → p ≤ m → ((ts : List Token) → Placed m ts → HeadPlaced m (then ts)) → HeadPlaced m (afterComma r p then)
   comma-placed (rest ts) p then h l f = f ts h
   comma-placed missing p then h l f = l
 
-  valued-placed : (x : Parsed) (number p : ℕ) (then : ℕ → Head) → p ≤ m → ((n : ℕ) → HeadPlaced m (then n)) → HeadPlaced m (valued x number p then)
+  valued-placed : (x : Parsed) (number p : ℕ) (then : ℕ → PrimaryStart) → p ≤ m → ((n : ℕ) → HeadPlaced m (then n)) → HeadPlaced m (valued x number p then)
   valued-placed (Value n) number p then l f = f n
   valued-placed Invalid number p then l f = l
 
   module _ (s : List ℕ) where
-    due-placed : (ts : List Token) (then : ℕ → List ℕ → List Token → Head) → Placed m ts → ((p : ℕ) (w : List ℕ) (us : List Token) → p ≤ m → Placed m us → HeadPlaced m (then p w us)) → HeadPlaced m (whenDue (dueIn s ts) then)
-    unfolding dueIn placeOf
+    due-placed : (ts : List Token) (then : ℕ → List ℕ → List Token → PrimaryStart) → Placed m ts → ((p : ℕ) (w : List ℕ) (us : List Token) → p ≤ m → Placed m us → HeadPlaced m (then p w us)) → HeadPlaced m (requireWord (expectedWord s ts) then)
+    unfolding expectedWord placeOf
     due-placed [] then h f = omega arith
     due-placed (End p ∷ ts) then h f = h .0
     due-placed (Open p n ∷ ts) then h f = h .0
@@ -131,28 +87,28 @@ module _ (m : ℕ) where
     due-placed (Word p a b q n ∷ ts) then h f = f p (part s a b) ts (h .0) (h .1)
     due-placed (Fault x ∷ ts) then h f = h .0
 
-    older-placed : (ts : List Token) → Placed m ts → HeadPlaced m (olderThanHead s ts)
-    unfolding olderThanHead
+    older-placed : (ts : List Token) → Placed m ts → HeadPlaced m (olderThanStart s ts)
+    unfolding olderThanStart
     older-placed ts h =
         due-placed ts _ h (λ p w us l k.
         closed-placed (after closeSign us) (firstPlace us) _ (after-placed closeSign us k) (first-placed us k) (λ vs e.
         valued-placed (durationOf w) _ p _ l (λ n. e)))
 
-    readable-placed : (ts : List Token) → Placed m ts → HeadPlaced m (readableHead s ts)
-    unfolding readableHead
+    readable-placed : (ts : List Token) → Placed m ts → HeadPlaced m (readableStart s ts)
+    unfolding readableStart
     readable-placed ts h =
         due-placed ts _ h (λ p w us l k.
         valued-placed (countOf w) _ p _ l (λ n.
         closed-placed (after closeSign us) (firstPlace us) _ (after-placed closeSign us k) (first-placed us k) (λ vs e. e)))
 
-    at-least-placed : (place : ℕ) (ts : List Token) → place ≤ m → Placed m ts → HeadPlaced m (atLeastHead s place ts)
-    unfolding atLeastHead
+    at-least-placed : (place : ℕ) (ts : List Token) → place ≤ m → Placed m ts → HeadPlaced m (atLeastStart s place ts)
+    unfolding atLeastStart
     at-least-placed place ts at h =
         due-placed ts _ h (λ p w us l k.
         valued-placed (countOf w) _ p _ l (λ n.
         comma-placed (after commaSign us) (firstPlace us) _ (after-placed commaSign us k) (first-placed us k) (λ vs e. (at, e))))
 
-    call-placed : (place : ℕ) (x : Function) (ts : List Token) → place ≤ m → Placed m ts → HeadPlaced m (callHead s place x ts)
+    call-placed : (place : ℕ) (x : Function) (ts : List Token) → place ≤ m → Placed m ts → HeadPlaced m (callStart s place x ts)
     call-placed place OlderThan ts at h = older-placed ts h
     call-placed place Readable ts at h = readable-placed ts h
     call-placed place Any ts at h = (at, h)
@@ -160,19 +116,19 @@ module _ (m : ℕ) where
     call-placed place AtLeast ts at h = at-least-placed place ts at h
     call-placed place Unknown ts at h = at
 
-    opened-placed : (d p : ℕ) (x : Head) → p ≤ m → HeadPlaced m x → HeadPlaced m (opened d p x)
+    opened-placed : (d p : ℕ) (x : PrimaryStart) → p ≤ m → HeadPlaced m x → HeadPlaced m (opened d p x)
     opened-placed d p x l h = by-cond (HeadPlaced m) (ltb d 64) (λ e. h) (λ e. l)
 
-    unquoted-placed : (d place : ℕ) (w : List ℕ) (ts : List Token) (r : Rest) → place ≤ m → Placed m ts → RestPlaced m r → HeadPlaced m (unquotedHead s d place w ts r)
+    unquoted-placed : (d place : ℕ) (w : List ℕ) (ts : List Token) (r : Rest) → place ≤ m → Placed m ts → RestPlaced m r → HeadPlaced m (unquotedStart s d place w ts r)
     unquoted-placed d place w ts missing at h k = h
     unquoted-placed d place w ts (rest us) at h k = opened-placed d (firstPlace ts) _ (first-placed ts h) (call-placed place (functionOf w) us at k)
 
-    word-placed : (d place : ℕ) (w : List ℕ) (q : Bool) (ts : List Token) → place ≤ m → Placed m ts → HeadPlaced m (wordHead s d place w q ts)
+    word-placed : (d place : ℕ) (w : List ℕ) (q : Bool) (ts : List Token) → place ≤ m → Placed m ts → HeadPlaced m (wordStart s d place w q ts)
     word-placed d place w true ts at h = h
     word-placed d place w false ts at h = unquoted-placed d place w ts (after openSign ts) at h (after-placed openSign ts h)
 
-    head-placed : (d : ℕ) (ts : List Token) → Placed m ts → HeadPlaced m (headIn s d ts)
-    unfolding headIn placeOf
+    head-placed : (d : ℕ) (ts : List Token) → Placed m ts → HeadPlaced m (primaryStart s d ts)
+    unfolding primaryStart placeOf
     head-placed d [] h = omega arith
     head-placed d (End p ∷ ts) h = h .0
     head-placed d (Open p n ∷ ts) h = opened-placed d p (aGroup ts) (h .0) (h .1)
@@ -184,22 +140,22 @@ module _ (m : ℕ) where
     head-placed d (Fault f ∷ ts) h = h .0
 
   -- ---- an expression
-  on-rest-placed : (k : ℕ) (ts : List Token) (then : List Token → Got) (other : Got) → Placed m ts → ((us : List Token) → Placed m us → GotPlaced m (then us)) → GotPlaced m other → GotPlaced m (onRest (after k ts) then other)
+  on-rest-placed : (k : ℕ) (ts : List Token) (then : List Token → ParseResult) (other : ParseResult) → Placed m ts → ((us : List Token) → Placed m us → GotPlaced m (then us)) → GotPlaced m other → GotPlaced m (onRest (after k ts) then other)
   on-rest-placed k ts then other h f g = go (after k ts) (after-placed k ts h)
     where
       go : (r : Rest) → RestPlaced m r → GotPlaced m (onRest r then other)
       go (rest us) p = f us p
       go missing p = g
 
-  onto-placed : (j : Join) (l : Rule) (g : Got) → GotPlaced m g → GotPlaced m (onto j l g)
+  onto-placed : (j : Join) (l : Rule) (g : ParseResult) → GotPlaced m g → GotPlaced m (onto j l g)
   onto-placed j l (got r ts) h = h
   onto-placed j l (bad f) h = h
 
-  close-placed : (g : Got) → GotPlaced m g → GotPlaced m (closeAfter g)
+  close-placed : (g : ParseResult) → GotPlaced m g → GotPlaced m (closeAfter g)
   close-placed (got r ts) h = on-rest-placed closeSign ts _ _ h (λ us k. k) (first-placed ts h)
   close-placed (bad f) h = h
 
-  by-head-placed : (x : Head) (inner : List Token → Got) (list : Join → List Token → Got) → HeadPlaced m x → ((ts : List Token) → Placed m ts → GotPlaced m (inner ts)) → ((j : Join) (ts : List Token) → Placed m ts → GotPlaced m (list j ts)) → GotPlaced m (byHead x inner list)
+  by-head-placed : (x : PrimaryStart) (inner : List Token → ParseResult) (list : Join → List Token → ParseResult) → HeadPlaced m x → ((ts : List Token) → Placed m ts → GotPlaced m (inner ts)) → ((j : Join) (ts : List Token) → Placed m ts → GotPlaced m (list j ts)) → GotPlaced m (byStart x inner list)
   by-head-placed (aLeaf l ts) inner list h i e = h
   by-head-placed (aGroup ts) inner list h i e = close-placed (inner ts) (i ts h)
   by-head-placed (aList j p ts) inner list h i e = on-rest-placed closeSign ts _ (list j ts) (h .1) (λ us k. h .0) (e j ts (h .1))
@@ -213,7 +169,7 @@ module _ (m : ℕ) where
       or-placed zero d ts h = omega arith
       or-placed (suc f) d ts h = or-more-placed f d (andIn f s d ts) (and-placed f d ts h)
 
-      or-more-placed : (f d : ℕ) (g : Got) → GotPlaced m g → GotPlaced m (orMore f s d g)
+      or-more-placed : (f d : ℕ) (g : ParseResult) → GotPlaced m g → GotPlaced m (orMore f s d g)
       or-more-placed zero d g h = omega arith
       or-more-placed (suc f) d (bad r) h = h
       or-more-placed (suc f) d (got l ts) h =
@@ -223,7 +179,7 @@ module _ (m : ℕ) where
       and-placed zero d ts h = omega arith
       and-placed (suc f) d ts h = and-more-placed f d (primaryIn f s d ts) (primary-placed f d ts h)
 
-      and-more-placed : (f d : ℕ) (g : Got) → GotPlaced m g → GotPlaced m (andMore f s d g)
+      and-more-placed : (f d : ℕ) (g : ParseResult) → GotPlaced m g → GotPlaced m (andMore f s d g)
       and-more-placed zero d g h = omega arith
       and-more-placed (suc f) d (bad r) h = h
       and-more-placed (suc f) d (got l ts) h =
@@ -232,11 +188,11 @@ module _ (m : ℕ) where
       primary-placed : (f d : ℕ) (ts : List Token) → Placed m ts → GotPlaced m (primaryIn f s d ts)
       primary-placed zero d ts h = omega arith
       primary-placed (suc f) d ts h =
-          by-head-placed (headIn s d ts) _ _ (head-placed s d ts h)
+          by-head-placed (primaryStart s d ts) _ _ (head-placed s d ts h)
           (λ us k. or-placed f (d + 1) us k)
           (λ j us k. list-more-placed f d j nil (orIn f s (d + 1) us) (or-placed f (d + 1) us k))
 
-      list-more-placed : (f d : ℕ) (j : Join) (rs : Rules) (g : Got) → GotPlaced m g → GotPlaced m (listMore f s d j rs g)
+      list-more-placed : (f d : ℕ) (j : Join) (rs : Rules) (g : ParseResult) → GotPlaced m g → GotPlaced m (listMore f s d j rs g)
       list-more-placed zero d j rs g h = omega arith
       list-more-placed (suc f) d j rs (bad r) h = h
       list-more-placed (suc f) d j rs (got r ts) h =
@@ -286,7 +242,7 @@ module _ (s : List ℕ) where
   unfolding tokensFrom
   text-placed = tokens-placed (length s - 0 + 1) s 0
 
-  ended-placed : (g : Got) → GotPlaced (length s) g → ReadPlaced (length s) (ended g)
+  ended-placed : (g : ParseResult) → GotPlaced (length s) g → ReadPlaced (length s) (ended g)
   ended-placed (got r ts) h = by-cond (ReadPlaced (length s)) (atEnd ts) (λ e. tt) (λ e. first-placed (length s) ts h)
   ended-placed (bad f) h = h
 

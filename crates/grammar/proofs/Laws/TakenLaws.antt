@@ -23,56 +23,7 @@ use Rattle.rules.specs.Rule.{named, readable, Join, atLeast, all, any, Rule, le
 use Rattle.image.specs.Encode.{leafArg, leafName, joinArg, names, namesAll, Small, SmallAll}
 use Rattle.grammar.specs.declared.Function.{Function}
 use Rattle.grammar.specs.declared.Function.the-variants.{OlderThan, Readable, Any, All, AtLeast, Unknown}
-use Rattle.grammar.specs.Grammar.{
-  tokenKind,
-  openSign,
-  closeSign,
-  commaSign,
-  andSign,
-  orSign,
-  Rest,
-  rest,
-  missing,
-  restIf,
-  after,
-  firstPlace,
-  Head,
-  aLeaf,
-  aGroup,
-  aList,
-  refused,
-  refuse,
-  closed,
-  dueIn,
-  whenDue,
-  valued,
-  olderThanHead,
-  readableHead,
-  afterComma,
-  atLeastHead,
-  functionOf,
-  callHead,
-  bareLeaf,
-  opened,
-  unquotedHead,
-  headIn,
-  chain,
-  leftRules,
-  sameJoin,
-  Got,
-  got,
-  bad,
-  onto,
-  onRest,
-  closeAfter,
-  byHead,
-  orIn,
-  orMore,
-  andIn,
-  andMore,
-  primaryIn,
-  listMore,
-}
+use Rattle.grammar.specs.Grammar.{tokenKind, openSign, closeSign, commaSign, andSign, orSign, Rest, rest, missing, restIf, after, firstPlace, PrimaryStart, aLeaf, aGroup, aList, refused, refuse, closed, expectedWord, requireWord, valued, olderThanStart, readableStart, afterComma, atLeastStart, functionOf, callStart, unquotedLeaf, opened, unquotedStart, primaryStart, chain, leftRules, sameJoin, ParseResult, got, bad, onto, onRest, closeAfter, byStart, orIn, orMore, andIn, andMore, primaryIn, listMore}
 use Rattle.slices.proofs.Laws.AsciiLaws.{append-ascii}
 use Rattle.grammar.proofs.Laws.AsciiLaws.{part-ascii}
 use Rattle.grammar.proofs.Laws.SmallLaws.{count-small, duration-small}
@@ -141,7 +92,7 @@ by-after P k ts l m f = go (after k ts) refl
 abbrev pub Numbered : Refusal → Type 0
 Numbered f = (2 ≤ f .number) × (f .number ≤ 15)
 
-abbrev pub Begun : List ℕ → List Token → Head → Type 0
+abbrev pub Begun : List ℕ → List Token → PrimaryStart → Type 0
 Begun s ts (aLeaf l us) = Made s ts us 1 (leafName l) (leafArg l 0 < 2 ^ 64)
 Begun s ts (aGroup us) = Taken ts us 1 0
 Begun s ts (aList j p us) = Taken ts us 1 0 × (joinArg j < 2 ^ 64)
@@ -153,15 +104,15 @@ unfolding part
 part-short s a b = omega (arith, length-take (b - a) (drop a s), length-drop a s)
 
 module _ (s : List ℕ) (ts : List Token) where
-  closed-begun : (us : List Token) (p : ℕ) (then : List Token → Head) → ((vs : List Token) → Taken us vs 1 0 → Begun s ts (then vs)) → Begun s ts (closed (after closeSign us) p then)
+  closed-begun : (us : List Token) (p : ℕ) (then : List Token → PrimaryStart) → ((vs : List Token) → Taken us vs 1 0 → Begun s ts (then vs)) → Begun s ts (closed (after closeSign us) p then)
   closed-begun us p then f = by-after (λ r. Begun s ts (closed r p then)) closeSign us (omega arith) (omega arith) f
 
-  valued-begun : (x : Parsed) (number p : ℕ) (then : ℕ → Head) → Numbered (refusal number p) → ((n : ℕ) → x ≡ Value n → Begun s ts (then n)) → Begun s ts (valued x number p then)
+  valued-begun : (x : Parsed) (number p : ℕ) (then : ℕ → PrimaryStart) → Numbered (refusal number p) → ((n : ℕ) → x ≡ Value n → Begun s ts (then n)) → Begun s ts (valued x number p then)
   valued-begun (Value n) number p then l f = f n refl
   valued-begun Invalid number p then l f = l
 
-  due-begun : (us : List Token) (then : ℕ → List ℕ → List Token → Head) → ((p : ℕ) (w : List ℕ) (vs : List Token) → Taken us vs 1 0 → Begun s ts (then p w vs)) → Begun s ts (whenDue (dueIn s us) then)
-  unfolding dueIn
+  due-begun : (us : List Token) (then : ℕ → List ℕ → List Token → PrimaryStart) → ((p : ℕ) (w : List ℕ) (vs : List Token) → Taken us vs 1 0 → Begun s ts (then p w vs)) → Begun s ts (requireWord (expectedWord s us) then)
+  unfolding expectedWord
   due-begun [] then f = omega arith
   due-begun (End p ∷ us) then f = omega arith
   due-begun (Open p n ∷ us) then f = omega arith
@@ -172,7 +123,7 @@ module _ (s : List ℕ) (ts : List Token) where
   due-begun (Word p a b q n ∷ us) then f = f p (part s a b) us (omega arith)
   due-begun (Fault g ∷ us) then f = omega arith
 
-  opened-begun : (d p : ℕ) (h : Head) → Begun s ts h → Begun s ts (opened d p h)
+  opened-begun : (d p : ℕ) (h : PrimaryStart) → Begun s ts h → Begun s ts (opened d p h)
   opened-begun d p h b = go (ltb d 64)
     where
       go : (v : Bool) → Begun s ts (cond v h (refuse tooDeep p))
@@ -186,25 +137,25 @@ module _ (s : List ℕ) (ts : List Token) where
 
   -- a function, of which the word and its bracket were taken
   module _ (us : List Token) (t : Taken ts us 1 0) where
-    older-begun : Begun s ts (olderThanHead s us)
-    unfolding olderThanHead
+    older-begun : Begun s ts (olderThanStart s us)
+    unfolding olderThanStart
     older-begun =
         due-begun us _ (λ p w vs i. closed-begun vs _ _ (λ xs j.
         valued-begun (durationOf w) _ _ _ (omega arith) (λ n e. number-made (omega arith) (duration-small w e))))
 
-    readable-begun : Begun s ts (readableHead s us)
-    unfolding readableHead
+    readable-begun : Begun s ts (readableStart s us)
+    unfolding readableStart
     readable-begun =
         due-begun us _ (λ p w vs i. valued-begun (countOf w) _ _ _ (omega arith) (λ n e.
         closed-begun vs _ _ (λ xs j. number-made (omega arith) (count-small w e))))
 
-    at-least-begun : (place : ℕ) → Begun s ts (atLeastHead s place us)
-    unfolding atLeastHead
+    at-least-begun : (place : ℕ) → Begun s ts (atLeastStart s place us)
+    unfolding atLeastStart
     at-least-begun place =
         due-begun us _ (λ p w vs i. valued-begun (countOf w) _ _ _ (omega arith) (λ n e.
         by-after (λ r. Begun s ts (afterComma r (firstPlace vs) (aList (atLeast n) place))) commaSign vs (omega arith) (omega arith) (λ xs j. (omega arith, count-small w e))))
 
-    call-begun : (place : ℕ) (f : Function) → Begun s ts (callHead s place f us)
+    call-begun : (place : ℕ) (f : Function) → Begun s ts (callStart s place f us)
     call-begun place OlderThan = older-begun
     call-begun place Readable = readable-begun
     call-begun place Any = (t, omega arith)
@@ -217,16 +168,16 @@ module _ (s : List ℕ) (ts : List Token) where
   name-made us a b t = record { taken = omega (arith, part-short s a b); ascii = part-ascii s a b; small = λ i. omega (arith, part-short s a b) }
 
   -- an unquoted word alone
-  bare-made : (us : List Token) (a b : ℕ) → Taken ts us 1 (b - a) → Begun s ts (aLeaf (bareLeaf (part s a b)) us)
-  unfolding bareLeaf
+  bare-made : (us : List Token) (a b : ℕ) → Taken ts us 1 (b - a) → Begun s ts (aLeaf (unquotedLeaf (part s a b)) us)
+  unfolding unquotedLeaf
   bare-made us a b t = go (equalIgnoringCase (part s a b) (bytes "readable"))
     where
       go : (v : Bool) → Begun s ts (aLeaf (cond v (readable 1) (named (part s a b))) us)
       go true = number-made (omega arith) (omega arith)
       go false = name-made us a b t
 
-pub head-begun : (s : List ℕ) (d : ℕ) (ts : List Token) → Begun s ts (headIn s d ts)
-unfolding headIn
+pub head-begun : (s : List ℕ) (d : ℕ) (ts : List Token) → Begun s ts (primaryStart s d ts)
+unfolding primaryStart
 head-begun s d [] = omega arith
 head-begun s d (End p ∷ us) = omega arith
 head-begun s d (Open p n ∷ us) = opened-begun s (Open p n ∷ us) d p (aGroup us) (omega arith)
@@ -237,7 +188,7 @@ head-begun s d (Or p n ∷ us) = omega arith
 head-begun s d (Word p a b true n ∷ us) = name-made s (Word p a b true n ∷ us) us a b (omega arith)
 head-begun s d (Word p a b false n ∷ us) =
     let ts = Word p a b false n ∷ us in
-    by-after (λ r. Begun s ts (unquotedHead s d p (part s a b) us r)) openSign us (omega arith)
+    by-after (λ r. Begun s ts (unquotedStart s d p (part s a b) us r)) openSign us (omega arith)
     (bare-made s ts us a b (omega arith))
     (λ vs t. opened-begun s ts d _ _ (call-begun s ts vs (omega arith) p (functionOf (part s a b))))
 head-begun s d (Fault f ∷ us) = omega arith
@@ -292,42 +243,42 @@ module _ {s : List ℕ} where
   chain-made j l r h m t n = node-made j (leftRules j l) r h (both (omega arith) (left-made j l m) t n)
 
 -- ---- what is read keeps to P
-abbrev pub Holds : (Rule → List Token → Type 0) → Got → Type 0
+abbrev pub Holds : (Rule → List Token → Type 0) → ParseResult → Type 0
 Holds P (got r us) = P r us
 Holds P (bad f) = Unit {0}
 
-pub on-rest : (P : Got → Type 0) (k : ℕ) (ts : List Token) (then : List Token → Got) (other : Got) → Sign k → ((us : List Token) → Taken ts us 1 0 → P (then us)) → P other → P (onRest (after k ts) then other)
+pub on-rest : (P : ParseResult → Type 0) (k : ℕ) (ts : List Token) (then : List Token → ParseResult) (other : ParseResult) → Sign k → ((us : List Token) → Taken ts us 1 0 → P (then us)) → P other → P (onRest (after k ts) then other)
 on-rest P k ts then other l f g = by-after (λ r. P (onRest r then other)) k ts l g f
 
 module _ (s : List ℕ) where
-  holds-behind : (ts us : List Token) (g : Got) → Taken ts us 1 0 → Holds (MadeRule s us) g → Holds (MadeRule s ts) g
+  holds-behind : (ts us : List Token) (g : ParseResult) → Taken ts us 1 0 → Holds (MadeRule s us) g → Holds (MadeRule s ts) g
   holds-behind ts us (got r vs) t m = behind t m
   holds-behind ts us (bad f) t m = tt
 
   -- a chain's turn
-  holds-onto : (j : Join) (ts us vs : List Token) (l : Rule) (g : Got) → joinArg j < 2 ^ 64 → MadeRule s ts l us → Taken us vs 1 0 → Holds (MadeRule s vs) g → Holds (MadeRule s ts) (onto j l g)
+  holds-onto : (j : Join) (ts us vs : List Token) (l : Rule) (g : ParseResult) → joinArg j < 2 ^ 64 → MadeRule s ts l us → Taken us vs 1 0 → Holds (MadeRule s vs) g → Holds (MadeRule s ts) (onto j l g)
   holds-onto j ts us vs l (got r xs) h m t n = chain-made j l r h m t n
   holds-onto j ts us vs l (bad f) h m t n = tt
 
-  holds-turn : (k : ℕ) (j : Join) (operand : List Token → Got) (again : Got → Got) → Sign k → joinArg j < 2 ^ 64 → ((us : List Token) → Holds (MadeRule s us) (operand us)) → ((ts : List Token) (g : Got) → Holds (MadeRule s ts) g → Holds (MadeRule s ts) (again g)) → (ts us : List Token) (l : Rule) → MadeRule s ts l us → Holds (MadeRule s ts) (onRest (after k us) (λ vs. again (onto j l (operand vs))) (got l us))
+  holds-turn : (k : ℕ) (j : Join) (operand : List Token → ParseResult) (again : ParseResult → ParseResult) → Sign k → joinArg j < 2 ^ 64 → ((us : List Token) → Holds (MadeRule s us) (operand us)) → ((ts : List Token) (g : ParseResult) → Holds (MadeRule s ts) g → Holds (MadeRule s ts) (again g)) → (ts us : List Token) (l : Rule) → MadeRule s ts l us → Holds (MadeRule s ts) (onRest (after k us) (λ vs. again (onto j l (operand vs))) (got l us))
   holds-turn k j operand again p h e a ts us l m = on-rest (Holds (MadeRule s ts)) k us _ (got l us) p (λ vs t. a ts _ (holds-onto j ts us vs l (operand vs) h m t (e vs))) m
 
   -- an argument, the first and a later one
-  holds-first : (ts : List Token) (g : Got) → Holds (MadeRule s ts) g → Holds (λ r us. MadeRules s ts (more nil r) us) g
+  holds-first : (ts : List Token) (g : ParseResult) → Holds (MadeRule s ts) g → Holds (λ r us. MadeRules s ts (more nil r) us) g
   holds-first ts (got r us) m = alone r m
   holds-first ts (bad f) m = tt
 
-  holds-next : (ts us vs : List Token) (rs : Rules) (g : Got) → MadeRules s ts rs us → Taken us vs 1 0 → Holds (MadeRule s vs) g → Holds (λ r xs. MadeRules s ts (more rs r) xs) g
+  holds-next : (ts us vs : List Token) (rs : Rules) (g : ParseResult) → MadeRules s ts rs us → Taken us vs 1 0 → Holds (MadeRule s vs) g → Holds (λ r xs. MadeRules s ts (more rs r) xs) g
   unfolding size names Small
   holds-next ts us vs rs (got r xs) m t n = both (omega arith) m t n
   holds-next ts us vs rs (bad f) m t n = tt
 
   -- a bracket that closes
-  holds-closed : (ts us : List Token) (g : Got) → Taken ts us 1 0 → Holds (MadeRule s us) g → Holds (MadeRule s ts) (closeAfter g)
+  holds-closed : (ts us : List Token) (g : ParseResult) → Taken ts us 1 0 → Holds (MadeRule s us) g → Holds (MadeRule s ts) (closeAfter g)
   holds-closed ts us (got r vs) t m = on-rest (Holds (MadeRule s ts)) closeSign vs (λ xs. got r xs) _ (omega arith) (λ xs u. behind t (before (omega arith) m u)) tt
   holds-closed ts us (bad f) t m = tt
 
-  holds-head : (ts : List Token) (h : Head) (inner : List Token → Got) (list : Join → List Token → Got) → Begun s ts h → ((us : List Token) → Holds (MadeRule s us) (inner us)) → ((j : Join) (us : List Token) → joinArg j < 2 ^ 64 → Holds (MadeRule s us) (list j us)) → Holds (MadeRule s ts) (byHead h inner list)
+  holds-head : (ts : List Token) (h : PrimaryStart) (inner : List Token → ParseResult) (list : Join → List Token → ParseResult) → Begun s ts h → ((us : List Token) → Holds (MadeRule s us) (inner us)) → ((j : Join) (us : List Token) → joinArg j < 2 ^ 64 → Holds (MadeRule s us) (list j us)) → Holds (MadeRule s ts) (byStart h inner list)
   unfolding size names Small
   holds-head ts (aLeaf l us) inner list b i e = b
   holds-head ts (aGroup us) inner list b i e = holds-closed ts us (inner us) b (i us)
@@ -341,7 +292,7 @@ module _ (s : List ℕ) where
     or-made zero d ts = tt
     or-made (suc f) d ts = or-more f d ts (andIn f s d ts) (and-made f d ts)
 
-    or-more : (f d : ℕ) (ts : List Token) (g : Got) → Holds (MadeRule s ts) g → Holds (MadeRule s ts) (orMore f s d g)
+    or-more : (f d : ℕ) (ts : List Token) (g : ParseResult) → Holds (MadeRule s ts) g → Holds (MadeRule s ts) (orMore f s d g)
     or-more zero d ts g m = tt
     or-more (suc f) d ts (bad r) m = tt
     or-more (suc f) d ts (got l us) m = holds-turn orSign any (andIn f s d) (orMore f s d) (omega arith) (omega arith) (λ vs. and-made f d vs) (λ xs g. or-more f d xs g) ts us l m
@@ -350,7 +301,7 @@ module _ (s : List ℕ) where
     and-made zero d ts = tt
     and-made (suc f) d ts = and-more f d ts (primaryIn f s d ts) (primary-made f d ts)
 
-    and-more : (f d : ℕ) (ts : List Token) (g : Got) → Holds (MadeRule s ts) g → Holds (MadeRule s ts) (andMore f s d g)
+    and-more : (f d : ℕ) (ts : List Token) (g : ParseResult) → Holds (MadeRule s ts) g → Holds (MadeRule s ts) (andMore f s d g)
     and-more zero d ts g m = tt
     and-more (suc f) d ts (bad r) m = tt
     and-more (suc f) d ts (got l us) m = holds-turn andSign all (primaryIn f s d) (andMore f s d) (omega arith) (omega arith) (λ vs. primary-made f d vs) (λ xs g. and-more f d xs g) ts us l m
@@ -358,10 +309,10 @@ module _ (s : List ℕ) where
     pub primary-made : (f d : ℕ) (ts : List Token) → Holds (MadeRule s ts) (primaryIn f s d ts)
     primary-made zero d ts = tt
     primary-made (suc f) d ts =
-        holds-head ts (headIn s d ts) _ _ (head-begun s d ts) (λ us. or-made f (d + 1) us)
+        holds-head ts (primaryStart s d ts) _ _ (head-begun s d ts) (λ us. or-made f (d + 1) us)
         (λ j us l. list-more f d j us nil (orIn f s (d + 1) us) l (holds-first us (orIn f s (d + 1) us) (or-made f (d + 1) us)))
 
-    list-more : (f d : ℕ) (j : Join) (ts : List Token) (rs : Rules) (g : Got) → joinArg j < 2 ^ 64 → Holds (λ r us. MadeRules s ts (more rs r) us) g → Holds (MadeRule s ts) (listMore f s d j rs g)
+    list-more : (f d : ℕ) (j : Join) (ts : List Token) (rs : Rules) (g : ParseResult) → joinArg j < 2 ^ 64 → Holds (λ r us. MadeRules s ts (more rs r) us) g → Holds (MadeRule s ts) (listMore f s d j rs g)
     list-more zero d j ts rs g l m = tt
     list-more (suc f) d j ts rs (bad r) l m = tt
     list-more (suc f) d j ts rs (got r us) l m =

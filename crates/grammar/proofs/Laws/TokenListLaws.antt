@@ -13,7 +13,7 @@ use Rattle.tokens.specs.declared.Next.the-variants.{Off, To}
 use Rattle.tokens.specs.Token.{placeOf, nextOf, tokenAt, onward, tokensFrom}
 use Rattle.tokens.specs.Inner.Bounds.{Lexed}
 use Rattle.tokens.proofs.Laws.TokenLaws.{tokens-are, goes-on, left-on, lexed}
-use Rattle.grammar.specs.Grammar.{tokenKind, rest, missing, after, firstPlace, due, undue, dueBy, dueIn, commaSign, closeSign}
+use Rattle.grammar.specs.Grammar.{tokenKind, rest, missing, after, firstPlace, expected, otherToken, expectedBy, expectedWord, commaSign, closeSign}
 use Rattle.grammar.specs.Inner.Heads.{left}
 
 -- the rest of the tokens, where the text goes on after the first
@@ -27,8 +27,8 @@ unfolding firstPlace
 place-onward t Off more = refl
 place-onward t (To n) more = refl
 
--- a word is due, and another token stands there
-undue-by : (s : List ℕ) (t : Token) (ts : List Token) → (tokenKind t ≡ 6 → ⊥) → dueBy s t ts ≡ undue (placeOf t)
+-- a word is expected, and another token stands there
+undue-by : (s : List ℕ) (t : Token) (ts : List Token) → (tokenKind t ≡ 6 → ⊥) → expectedBy s t ts ≡ otherToken (placeOf t)
 unfolding placeOf
 undue-by s (End p) ts h = refl
 undue-by s (Open p n) ts h = refl
@@ -39,8 +39,8 @@ undue-by s (Or p n) ts h = refl
 undue-by s (Word p a b q n) ts h = absurd (h refl)
 undue-by s (Fault f) ts h = refl
 
-undue-onward : (s : List ℕ) (t : Token) (n : Next) (more : ℕ → List Token) → (tokenKind t ≡ 6 → ⊥) → dueIn s (onward t n more) ≡ undue (placeOf t)
-unfolding dueIn
+undue-onward : (s : List ℕ) (t : Token) (n : Next) (more : ℕ → List Token) → (tokenKind t ≡ 6 → ⊥) → expectedWord s (onward t n more) ≡ otherToken (placeOf t)
+unfolding expectedWord
 undue-onward s t Off more h = undue-by s t [] h
 undue-onward s t (To n) more h = undue-by s t (more n) h
 
@@ -51,8 +51,8 @@ module _ (s : List ℕ) (at : ℕ) {t : Token} (e : tokenAt s at ≡ t) where
   pub after-off : (k : ℕ) → (tokenKind t ≡ k → ⊥) → after k (tokensFrom s at) ≡ missing
   after-off k h = ap (after k) (tokens-are s at e) ∙ after-onward k t (nextOf t) (tokensFrom s) h
 
-  pub word-undue : (tokenKind t ≡ 6 → ⊥) → dueIn s (tokensFrom s at) ≡ undue (placeOf t)
-  word-undue h = ap (dueIn s) (tokens-are s at e) ∙ undue-onward s t (nextOf t) (tokensFrom s) h
+  pub word-undue : (tokenKind t ≡ 6 → ⊥) → expectedWord s (tokensFrom s at) ≡ otherToken (placeOf t)
+  word-undue h = ap (expectedWord s) (tokens-are s at e) ∙ undue-onward s t (nextOf t) (tokensFrom s) h
 
   -- the text goes on after it
   module _ {n : ℕ} (h : nextOf t ≡ To n) where
@@ -67,9 +67,9 @@ module _ (s : List ℕ) (at : ℕ) {t : Token} (e : tokenAt s at ≡ t) where
     steps = let g = goes-on s at (ap nextOf e ∙ h) in let l = left-on s at (ap nextOf e ∙ h) in omega arith
 
 module _ (s : List ℕ) (at : ℕ) {p a b n : ℕ} where
-  pub word-due : {q : _} → tokenAt s at ≡ Word p a b q n → dueIn s (tokensFrom s at) ≡ due p (part s a b) (tokensFrom s n)
-  unfolding dueIn nextOf
-  word-due e = ap (dueIn s) (tokens-next s at e refl)
+  pub word-due : {q : _} → tokenAt s at ≡ Word p a b q n → expectedWord s (tokensFrom s at) ≡ expected p (part s a b) (tokensFrom s n)
+  unfolding expectedWord nextOf
+  word-due e = ap (expectedWord s) (tokens-next s at e refl)
 
   -- where a word and its part of the text lie
   pub word-part : {q : _} → tokenAt s at ≡ Word p a b q n → (at ≤ p) × (p ≤ a) × (a ≤ b) × (b ≤ n) × (n ≤ length s)

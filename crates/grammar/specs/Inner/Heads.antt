@@ -13,8 +13,8 @@ use Rattle.grammar.specs.declared.Test.{Test}
 use Rattle.grammar.specs.declared.Test.the-variants.{OlderThan, Readable}
 use Rattle.grammar.specs.declared.Combinator.{Combinator}
 use Rattle.grammar.specs.declared.Combinator.the-variants.{AtLeast, All, Any}
-use Rattle.grammar.specs.declared.Head.{Head}
-use Rattle.grammar.specs.declared.Head.the-variants.{Name, Leaf as Tested, Group, List as Listed, Refused}
+use Rattle.grammar.specs.declared.PrimaryStart.{PrimaryStart}
+use Rattle.grammar.specs.declared.PrimaryStart.the-variants.{Name, Leaf as Tested, Group, List as Listed, Refused}
 
 abbrev pub leafOf : Test → Leaf
 leafOf (OlderThan ms) = olderThan ms
@@ -26,7 +26,7 @@ joinOf All = all
 joinOf Any = any
 
 -- the answer as the grammar has it: a position stands for the tokens from there on
-abbrev pub headOf : List ℕ → Head → grammar.Head
+abbrev pub headOf : List ℕ → PrimaryStart → grammar.PrimaryStart
 headOf s (Name a b n) = grammar.aLeaf (named (part s a b)) (tokensFrom s n)
 headOf s (Tested t n) = grammar.aLeaf (leafOf t) (tokensFrom s n)
 headOf s (Group n) = grammar.aGroup (tokensFrom s n)
@@ -34,7 +34,7 @@ headOf s (Listed c p n) = grammar.aList (joinOf c) p (tokensFrom s n)
 headOf s (Refused f) = grammar.refused f
 
 -- where the text goes on
-abbrev pub headNext : Head → Next
+abbrev pub headNext : PrimaryStart → Next
 headNext (Name a b n) = To n
 headNext (Tested t n) = To n
 headNext (Group n) = To n
@@ -47,7 +47,7 @@ left s at = length (tokensFrom s at)
 
 -- The answer says what the grammar has. The text goes on at `lo` or behind it, with at most `most` tokens left; a name stands
 -- at `low` or behind it.
-pub record Begins (s : List ℕ) (low lo most : ℕ) (h : Head) (g : grammar.Head) : Type 0 where
+pub record Begins (s : List ℕ) (low lo most : ℕ) (h : PrimaryStart) (g : grammar.PrimaryStart) : Type 0 where
   pub says : headOf s h ≡ g
   pub on : (n : ℕ) → headNext h ≡ To n → (lo ≤ n) × (n ≤ length s) × (left s n ≤ most)
   pub name : (a b n : ℕ) → h ≡ Name a b n → (low ≤ a) × (a ≤ b) × (b ≤ n)

@@ -13,7 +13,7 @@ use Rattle.image.specs.Kinds.{readableKind, atLeastKind, anyKind}
 use Rattle.image.specs.Layout.{nameOf}
 use Rattle.image.specs.Decode.{when, bind, isSome, Node, nodeAt, Meaning, aLeaf, aJoin, nothing, argument0, meaning, Cell, cellAt, split, close, place, build, only}
 use Rattle.image.specs.Inner.Leaves.{isLeaf}
-use Rattle.image.specs.Inner.Standing.{Stands, StandAll}
+use Rattle.image.specs.Inner.Standing.{EncodedAt, EncodedAllAt}
 use Rattle.image.proofs.Laws.StandingLaws.{root-size, Built, built}
 use Rattle.image.proofs.Laws.EncodeLaws.{size-pos}
 use Rattle.image.proofs.Laws.KindLaws.{leaf-low, leaf-high}
@@ -77,12 +77,12 @@ module _ (f : ℕ → Cell) where
     before : Rules
     child : Rule
     is : rs ≡ more before child
-    standing : StandAll before f 0
+    standing : EncodedAllAt before f 0
     sized : sizes before + size child ≡ i
     says : f (i - 1) .size ≡ size child
 
   last : (i : ℕ) (rs : Rules) → 0 < i → Built f i rs → Last i rs
-  unfolding size Stands
+  unfolding size EncodedAt
   last i nil h b = absurd (omega (arith, b .sized))
   last i (more rs r) h b =
       let p : sizes rs + size r ≡ i = b .sized in

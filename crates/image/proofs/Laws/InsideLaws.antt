@@ -19,8 +19,8 @@ use Rattle.image.proofs.Laws.FitLaws.{isSome-true}
 use Rattle.image.proofs.Laws.TestLaws.{sized-true, ends-some, only-some}
 use Rattle.image.proofs.Laws.StandingLaws.{built}
 use Rattle.image.proofs.Laws.NameRunLaws.{next-le}
-use Rattle.image.specs.Inner.Standing.{Stands}
-use Rattle.image.specs.Inner.Subtree.{NamesInside, Inside}
+use Rattle.image.specs.Inner.Standing.{EncodedAt}
+use Rattle.image.specs.Inner.Subtree.{NamesInside, ValidSubtree}
 
 -- ---- names that end at t lie before it
 
@@ -38,12 +38,12 @@ name-before f (suc n) t e i lt h =
 -- an image of n nodes, all of them the rule's
 pub record Whole (s : List ℕ) (n : ℕ) (r : Rule) : Type 0 where
   pub sized : size r ≡ n
-  pub stands : Stands r (cellAt s n) 0
-  pub inside : Inside s n 0 n
+  pub stands : EncodedAt r (cellAt s n) 0
+  pub inside : ValidSubtree s n 0 n
   pub few : n ≤ 2048
 
 parts-whole : (s : List ℕ) (n m : ℕ) (r : Rule) → decodeParts s n m ≡ some r → Whole s n r
-unfolding decodeParts size Stands NamesInside
+unfolding decodeParts size EncodedAt NamesInside
 parts-whole s n m r e =
     let (t₁, e₁) = when-some (lengths s n m) _ e in
     let (t₂, e₂) = when-some (allAscii (drop (namesStart n) s)) _ e₁ in
@@ -65,7 +65,7 @@ pub decode-whole : (s : List ℕ) {n : ℕ} {r : Rule} → n ≡ nodeCountIn s �
 unfolding decode
 decode-whole s {n} {r} p e = parts-whole s n (nameByteCountIn s) r (rw p e)
 
-pub image-inside : (s : List ℕ) {n : ℕ} → isSome (decode s) ≡ true → n ≡ nodeCountIn s → Inside s n 0 n
+pub image-inside : (s : List ℕ) {n : ℕ} → isSome (decode s) ≡ true → n ≡ nodeCountIn s → ValidSubtree s n 0 n
 image-inside s is p = let (r, e) = isSome-true (decode s) is in decode-whole s p e .inside
 
 pub image-few : (s : List ℕ) {n : ℕ} → isSome (decode s) ≡ true → n ≡ nodeCountIn s → n ≤ 2048

@@ -7,13 +7,13 @@ use lib.Dec.{eqb}
 use borrow.Author.Tests.{eqb-true}
 use Rattle.rules.specs.Rule.{Rule, leaf, node, Rules, nil, more, size, sizes}
 use Rattle.image.specs.Decode.{Meaning, aLeaf, aJoin, nothing, Cell, place, build}
-use Rattle.image.specs.Inner.Standing.{Stands, StandAll}
+use Rattle.image.specs.Inner.Standing.{EncodedAt, EncodedAllAt}
 use Rattle.image.proofs.Laws.EncodeLaws.{size-pos}
 use Rattle.image.proofs.Laws.BuildLaws.{when-some, bind-some, chain, closed, sizes-chain, sizes-close}
 
 -- a rule's last cell says its size
-pub root-size : (r : Rule) (f : ℕ → Cell) (s : ℕ) → Stands r f s → f (s + size r - 1) .size ≡ size r
-unfolding size Stands
+pub root-size : (r : Rule) (f : ℕ → Cell) (s : ℕ) → EncodedAt r f s → f (s + size r - 1) .size ≡ size r
+unfolding size EncodedAt
 root-size (leaf l) f s st =
     let e : s + 1 - 1 ≡ s = omega arith in
     rw e (st .1)
@@ -22,7 +22,7 @@ root-size (node j rs r) f s st =
     rw e (st .3)
 
 -- rules that end at one cell are of one size, for that cell says it
-same-last : (r q : Rule) (f : ℕ → Cell) (s m k : ℕ) → Stands r f (s + m) → Stands q f (s + k) → m + size r ≡ k + size q → (size r ≡ size q) × (m ≡ k)
+same-last : (r q : Rule) (f : ℕ → Cell) (s m k : ℕ) → EncodedAt r f (s + m) → EncodedAt q f (s + k) → m + size r ≡ k + size q → (size r ≡ size q) × (m ≡ k)
 same-last r q f s m k x y e =
     let a : s + m + size r - 1 ≡ s + k + size q - 1 = omega arith in
     let b : size r ≡ size q = sym (rw a at (root-size r f (s + m) x)) ∙ root-size q f (s + k) y in
@@ -30,9 +30,9 @@ same-last r q f s m k x y e =
 
 -- two rules of one size that stand in the same cells are the same
 mutual
-  unfolding size Stands
+  unfolding size EncodedAt
 
-  pub one-rule : (p q : Rule) (f : ℕ → Cell) (s : ℕ) → size p ≡ size q → Stands p f s → Stands q f s → p ≡ q
+  pub one-rule : (p q : Rule) (f : ℕ → Cell) (s : ℕ) → size p ≡ size q → EncodedAt p f s → EncodedAt q f s → p ≡ q
   one-rule (leaf l) (leaf m) f s e x y = cc
   one-rule (leaf l) (node i qs q) f s e x y = absurd (omega (arith, size-pos q))
   one-rule (node j rs r) (leaf m) f s e x y = absurd (omega (arith, size-pos r))
@@ -45,7 +45,7 @@ mutual
       let v = y .2 in
       cc
 
-  one-rules : (ps qs : Rules) (f : ℕ → Cell) (s : ℕ) → sizes ps ≡ sizes qs → StandAll ps f s → StandAll qs f s → ps ≡ qs
+  one-rules : (ps qs : Rules) (f : ℕ → Cell) (s : ℕ) → sizes ps ≡ sizes qs → EncodedAllAt ps f s → EncodedAllAt qs f s → ps ≡ qs
   one-rules nil nil f s e x y = refl
   one-rules nil (more qs q) f s e x y = absurd (omega (arith, size-pos q))
   one-rules (more ps p) nil f s e x y = absurd (omega (arith, size-pos p))
@@ -56,8 +56,8 @@ mutual
       cc
 
 -- of rules that stand behind one another: those before, and those behind
-stand-chain : (f : ℕ → Cell) (s : ℕ) (ps rs : Rules) → StandAll (chain ps rs) f s → StandAll ps f s × StandAll rs f (s + sizes ps)
-unfolding chain Stands
+stand-chain : (f : ℕ → Cell) (s : ℕ) (ps rs : Rules) → EncodedAllAt (chain ps rs) f s → EncodedAllAt ps f s × EncodedAllAt rs f (s + sizes ps)
+unfolding chain EncodedAt
 stand-chain f s ps nil h = (h, tt)
 stand-chain f s ps (more rs r) h =
     let (x, y) = stand-chain f s ps rs (h .0) in
@@ -66,12 +66,12 @@ stand-chain f s ps (more rs r) h =
 
 -- rules that have the first i cells
 pub record Built (f : ℕ → Cell) (i : ℕ) (rs : Rules) : Type 0 where
-  pub standing : StandAll rs f 0
+  pub standing : EncodedAllAt rs f 0
   pub sized : sizes rs ≡ i
 
 module _ (f : ℕ → Cell) where
   place-built : (i : ℕ) (w : Meaning) (rs out : Rules) → f i .what ≡ w → place w (f i .size) rs ≡ some out → Built f i rs → Built f (suc i) out
-  unfolding place size Stands
+  unfolding place size EncodedAt
   place-built i (aLeaf l) rs out m e b =
       let (t, e₁) = when-some (eqb (f i .size) 1) (some (more rs (leaf l))) e in
       let p : out ≡ more rs (leaf l) = cc in
@@ -91,7 +91,7 @@ module _ (f : ℕ → Cell) where
   place-built i nothing rs out m e b = absurd (Option·none-ne-some _ e)
 
   pub built : (i : ℕ) (rs : Rules) → build f i ≡ some rs → Built f i rs
-  unfolding build size Stands
+  unfolding build size EncodedAt
   built zero rs e =
       let p : rs ≡ nil = cc in
       rw p (record { standing = tt; sized = refl })

@@ -6,19 +6,19 @@ use Rattle.image.proofs.node_at.Tie as tie
 
 returns : tie.Need-returns
 unfolding nodeAt
-returns c = cc (c .before .le4 .ensures .0, c .le8 .ensures)
+returns c = cc (c .before .read-u32 .ensures .0, c .read-u64 .ensures)
 
 pub node-at-spec : {M : Type 1} → statement M
 node-at-spec =
     tie.close
     (tie.spec
-    (λ c. search needs)  -- mul-le4
-    (λ c. search needs)  -- add-le4
-    (λ c κs. search needs)  -- le4-requires
+    (λ c. search needs)  -- mul-read-u32
+    (λ c. search needs)  -- add-read-u32
+    (λ c κs. search needs)  -- read-u32-requires
     (λ c. search needs)  -- cast-kind
-    (λ c. search needs)  -- mul-le8
-    (λ c. search needs)  -- add-le8
-    (λ c. search needs)  -- mul-le8-2
-    (λ c. search needs)  -- add-le8-2
-    (λ c κs. search needs)  -- le8-requires
+    (λ c. search needs)  -- mul-read-u64
+    (λ c. search needs)  -- add-read-u64
+    (λ c. search needs)  -- mul-read-u64-2
+    (λ c. search needs)  -- add-read-u64-2
+    (λ c κs. search needs)  -- read-u64-requires
     returns)

@@ -24,7 +24,7 @@ loop-holds c = (omega arith, refl, written-none _ _)
 loop-again : tie.Need-loop-again Inv-loop μ-loop
 loop-again c =
     let l = c .before .before .before .before .before .before .loop in
-    let p = c .before .before .put8 in
+    let p = c .before .before .write-u64 in
     (omega arith, p .kept .0 ∙ l .inv .1, packed-on _ _ (omega arith) _ (l .i) (omega arith) 8 (l .inv .2) (p .ensures))
 
 returns : tie.Need-returns Inv-loop μ-loop
@@ -40,11 +40,11 @@ put-args-spec =
     Inv-loop
     μ-loop
     loop-holds
-    (λ c. omega arith)  -- mul-put8
-    (λ c. omega arith)  -- add-put8
-    (λ c. omega arith)  -- mul-put8-2
-    (λ c. omega arith)  -- shared-slice-read-put8
-    (λ c κs. omega arith)  -- put8-requires
+    (λ c. omega arith)  -- mul-write-u64
+    (λ c. omega arith)  -- add-write-u64
+    (λ c. omega arith)  -- mul-write-u64-2
+    (λ c. omega arith)  -- shared-slice-read-write-u64
+    (λ c κs. omega arith)  -- write-u64-requires
     (λ c. omega arith)  -- add-i
     (λ c. omega arith)  -- loop-less
     loop-again

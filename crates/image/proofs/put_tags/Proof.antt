@@ -21,13 +21,13 @@ loop-holds : tie.Need-loop-holds Inv-loop μ-loop
 unfolding packed
 loop-holds c = (omega arith, refl, written-none _ _)
 
-cast-put4 : tie.Need-cast-put4 Inv-loop μ-loop
-cast-put4 c = omega (arith, c .shared-slice-known2 .given (c .before .before .before .loop .i))
+cast-write-u32 : tie.Need-cast-write-u32 Inv-loop μ-loop
+cast-write-u32 c = omega (arith, c .shared-slice-known2 .given (c .before .before .before .loop .i))
 
 loop-again : tie.Need-loop-again Inv-loop μ-loop
 loop-again c =
     let l = c .before .before .before .before .before .before .loop in
-    let p = c .before .before .put4 in
+    let p = c .before .before .write-u32 in
     (omega arith, p .kept .0 ∙ l .inv .1, packed-on _ _ (omega arith) _ (l .i) (omega arith) 4 (l .inv .2) (p .ensures))
 
 returns : tie.Need-returns Inv-loop μ-loop
@@ -43,12 +43,12 @@ put-tags-spec =
     Inv-loop
     μ-loop
     loop-holds
-    (λ c. omega arith)  -- mul-put4
-    (λ c. omega arith)  -- add-put4
-    (λ c. omega arith)  -- mul-put4-2
-    (λ c. omega arith)  -- shared-slice-read-put4
-    cast-put4
-    (λ c κs. omega arith)  -- put4-requires
+    (λ c. omega arith)  -- mul-write-u32
+    (λ c. omega arith)  -- add-write-u32
+    (λ c. omega arith)  -- mul-write-u32-2
+    (λ c. omega arith)  -- shared-slice-read-write-u32
+    cast-write-u32
+    (λ c κs. omega arith)  -- write-u32-requires
     (λ c. omega arith)  -- add-i
     (λ c. omega arith)  -- loop-less
     loop-again

@@ -34,14 +34,14 @@ returns c =
     let p₂ = p₃ .before .before .before .before in
     let p₁ = p₂ .before .before .before .before in
     let h = p₁ .before .before .before .before .before .before .pre in
-    (refl, parts _ _ _ _ (length-take-le _ _ (h .0)) (length-take-le _ _ (h .1 .0)) (length-take-le _ _ (h .1 .1 .0)) (p₁ .put2 .ensures) (p₂ .put22 .ensures) (p₃ .put-tags .ensures) (p₄ .put-args .ensures) (p₅ .put-names .ensures))
+    (refl, parts _ _ _ _ (length-take-le _ _ (h .0)) (length-take-le _ _ (h .1 .0)) (length-take-le _ _ (h .1 .1 .0)) (p₁ .write-u16 .ensures) (p₂ .write-u162 .ensures) (p₃ .put-tags .ensures) (p₄ .put-args .ensures) (p₅ .put-names .ensures))
 
 pub write-image-spec : {M : Type 1} → statement M
 write-image-spec =
     tie.close
     (tie.spec
-    (λ c κs. search needs)  -- put2-requires
-    (λ c κs. search needs)  -- put2-requires-2
+    (λ c κs. search needs)  -- write-u16-requires
+    (λ c κs. search needs)  -- write-u16-requires-2
     (λ c κs. search needs)  -- put-tags-requires
     (λ c. search needs)  -- mul-put-args
     (λ c. search needs)  -- add-put-args

@@ -6,14 +6,14 @@ use Rattle.image.specs.Decode.{aLeaf, aJoin, Cell}
 
 -- the rule's cells are those from a place on
 unfoldable mutual
-  pub Stands : Rule → (ℕ → Cell) → ℕ → Type 0
-  Stands (leaf l) f s = (f s .what ≡ aLeaf l) × (f s .size ≡ 1)
-  Stands (node j rs r) f s =
-      StandAll rs f s
-      × Stands r f (s + sizes rs)
+  pub EncodedAt : Rule → (ℕ → Cell) → ℕ → Type 0
+  EncodedAt (leaf l) f s = (f s .what ≡ aLeaf l) × (f s .size ≡ 1)
+  EncodedAt (node j rs r) f s =
+      EncodedAllAt rs f s
+      × EncodedAt r f (s + sizes rs)
       × (f (s + sizes rs + size r) .what ≡ aJoin j)
       × (f (s + sizes rs + size r) .size ≡ suc (sizes rs + size r))
 
-  pub StandAll : Rules → (ℕ → Cell) → ℕ → Type 0
-  StandAll nil f s = Unit {0}
-  StandAll (more rs r) f s = StandAll rs f s × Stands r f (s + sizes rs)
+  pub EncodedAllAt : Rules → (ℕ → Cell) → ℕ → Type 0
+  EncodedAllAt nil f s = Unit {0}
+  EncodedAllAt (more rs r) f s = EncodedAllAt rs f s × EncodedAt r f (s + sizes rs)

@@ -7,13 +7,13 @@ use Rattle.rules.specs.Rule.{Rule, size}
 use Rattle.image.specs.Kinds.{namedKind}
 use Rattle.image.specs.Layout.{namesStart}
 use Rattle.image.specs.Decode.{Cell, cellAt, nodeAt}
-use Rattle.image.specs.Inner.Standing.{Stands}
+use Rattle.image.specs.Inner.Standing.{EncodedAt}
 
 -- the k cells from `from` on are a rule's
 pub record Subtree (f : ℕ → Cell) (from k : ℕ) : Type 0 where
   pub rule : Rule
   pub sized : size rule ≡ k
-  pub stands : Stands rule f from
+  pub stands : EncodedAt rule f from
 
 -- the name that an argument tells of lies inside an image of n nodes
 abbrev pub NameInside : List ℕ → ℕ → ℕ → Type 0
@@ -30,11 +30,11 @@ pub record Row (s : List ℕ) (n from k : ℕ) : Type 0 where
   pub here : Subtree (cellAt s n) from k
 
 -- an image of n nodes, of which the k from `from` on are a rule's
-pub record Inside (s : List ℕ) (n from k : ℕ) : Type 0 where
+pub record ValidSubtree (s : List ℕ) (n from k : ℕ) : Type 0 where
   pub long : namesStart n ≤ length s
   pub names : NamesInside s n
   pub within : from + k ≤ n
   pub here : Subtree (cellAt s n) from k
 
-abbrev pub rowOf : {s : List ℕ} {n from k : ℕ} → Inside s n from k → Row s n from k
+abbrev pub rowOf : {s : List ℕ} {n from k : ℕ} → ValidSubtree s n from k → Row s n from k
 rowOf i = record { long = i .long; within = i .within; here = i .here }

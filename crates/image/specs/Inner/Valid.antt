@@ -14,7 +14,7 @@ abbrev pub nodeOf : Node → decoding.Node
 nodeOf d = record { kind = d .kind; size = d .size; arg = d .arg }
 
 -- an image of n nodes, of which the first i make rules, in order
-pub record UpTo (s : List ℕ) (n i : ℕ) : Type 0 where
+pub record BuiltUpTo (s : List ℕ) (n i : ℕ) : Type 0 where
   pub long : namesStart n ≤ length s
   pub within : i ≤ n
   pub ready : isSome (build (cellAt s n) i) ≡ true

@@ -10,11 +10,11 @@ use lib.ListN.{length, set}
 use Rattle.slices.proofs.Laws.WrittenLaws.{after-set}
 use Rattle.rules.specs.Rule.{Leaf}
 use Rattle.image.specs.Decode.{aLeaf, cellAt}
-use Rattle.evaluate.specs.Evict.{World, leafSays}
+use Rattle.evaluate.specs.Evict.{Env, leafSays}
 use Rattle.image.proofs.Laws.KindLaws.{NoLeaf}
 use Rattle.leaf_answers.specs.Inner.Known.{SaidTo}
 
-module _ (s : List ℕ) (n : ℕ) (says : List ℕ) (least : ℕ) (w : World) {i : ℕ} (h : SaidTo s n says least w i) where
+module _ (s : List ℕ) (n : ℕ) (says : List ℕ) (least : ℕ) (w : Env) {i : ℕ} (h : SaidTo s n says least w i) where
   -- node i is no leaf
   pub said-skip : NoLeaf (cellAt s n i .what) → SaidTo s n says least w (i + 1)
   said-skip other j lt l e =

@@ -1,7 +1,7 @@
 -- `leaf_answers::leaf_says` meets its contract: each kind has its own line, and the other kinds are no leaf's. Assumes nothing.
 use native.Mathlib.Omega.{arith}
 use borrow.Author.Needs.{needs}
-use Rattle.leaf_answers.specs.Inner.Known.{worldIn}
+use Rattle.leaf_answers.specs.Inner.Known.{envIn}
 use Rattle.image.proofs.Laws.KindLaws.{above-leaf, no-leaf}
 use Rattle.evaluate.proofs.Laws.MeaningLaws.{says-named, says-older, says-readable}
 use Rattle.leaf_answers.proofs.leaf_says.Statement.{statement}
@@ -16,7 +16,7 @@ is-confirmed-requires c κs = search needs
 returns : tie.Need-returns
 returns c = λ l e.
     let s = c .before .before .before .before .before .before in
-    says-named _ _ _ (worldIn (s .args .list .now) (s .args .view)) l e (c .before .before .match .keys1) (c .before .name-of .ensures) (c .is-confirmed .ensures)
+    says-named _ _ _ (envIn (s .args .list .now) (s .args .view)) l e (c .before .before .match .keys1) (c .before .name-of .ensures) (c .is-confirmed .ensures)
 
 returns-2 : tie.Need-returns-2
 returns-2 c = λ l e. says-older _ _ _ _ l e (c .before .match .keys2)

@@ -5,7 +5,7 @@ use Prim.Native.Nat.{_-_, _≤_, _<_}
 use native.Mathlib.Omega.{arith}
 use lib.ListN.{length, length-set}
 use borrow.Author.Needs.{needs}
-use Rattle.leaf_answers.specs.Inner.Known.{worldIn, SaidTo}
+use Rattle.leaf_answers.specs.Inner.Known.{envIn, SaidTo}
 use Rattle.image.proofs.Laws.KindLaws.{no-leaf}
 use Rattle.image.proofs.Laws.CellLaws.{cell-what, name-inside}
 use Rattle.leaf_answers.proofs.Laws.SaidLaws.{said-skip, said-write}
@@ -14,7 +14,7 @@ use Rattle.leaf_answers.proofs.say_leaves.Tie as tie
 
 abbrev Inv-loop : tie.InvT-loop
 Inv-loop image n stores list view starts slots marks says₀ i₀ says i =
-    (i ≤ n) × (length says ≡ length says₀) × SaidTo image n says 1 (worldIn list view) i
+    (i ≤ n) × (length says ≡ length says₀) × SaidTo image n says 1 (envIn list view) i
 
 abbrev μ-loop : tie.MeasureT-loop
 μ-loop image n stores list view starts slots marks says₀ i₀ says i = n - i

@@ -11,8 +11,8 @@ use Rattle.lines.proofs.Laws.LinesLaws.{LineOf, line-of}
 use Rattle.lines.proofs.append_marked.Statement.{statement}
 use Rattle.lines.proofs.append_marked.Tie as tie
 
-the-line : (c : tie.After-mark-at) → LineOf (c .before .before .before .before .args .rule .now) (c .before .before .before .before .args .place) (c .before .behind-last .result) (c .mark-at .result)
-the-line c = line-of (c .before .before .before .before .pre .0) (c .before .behind-last .ensures) (c .mark-at .ensures)
+the-line : (c : tie.After-mark-at) → LineOf (c .before .before .before .before .args .rule .now) (c .before .before .before .before .args .place) (c .before .end-of-last .result) (c .mark-at .result)
+the-line c = line-of (c .before .before .before .before .pre .0) (c .before .end-of-last .ensures) (c .mark-at .ensures)
 
 sub-append-shown : tie.Need-sub-append-shown
 sub-append-shown c = omega (arith, the-line (c .before))
@@ -48,13 +48,13 @@ returns c =
     let m = e₁ .before .before .before in
     let a = m .before .before .before .before .args in
     let h : a .at ≤ length (a .text .now) = omega arith in
-    rw (← m .before .behind-last .ensures, ← m .mark-at .ensures) (simp append-assoc at (put-behind h (put-behind h (put-behind h (e₁ .append-shown .ensures) (e₂ .append .ensures)) (e₃ .append-blanks .ensures)) (e₄ .append2 .ensures)))
+    rw (← m .before .end-of-last .ensures, ← m .mark-at .ensures) (simp append-assoc at (put-behind h (put-behind h (put-behind h (e₁ .append-shown .ensures) (e₂ .append .ensures)) (e₃ .append-blanks .ensures)) (e₄ .append2 .ensures)))
 
 pub append-marked-spec : {M : Type 1} → statement M
 append-marked-spec =
     tie.close
     (tie.spec
-    (λ c κs. search needs)  -- behind-last-requires
+    (λ c κs. search needs)  -- end-of-last-requires
     (λ c κs. search needs)  -- mark-at-requires
     sub-append-shown
     part-append-shown-start

@@ -6,22 +6,22 @@ use Rattle.lines.proofs.Laws.LinesLaws.{trimmed-length}
 use Rattle.lines.proofs.append_trimmed.Statement.{statement}
 use Rattle.lines.proofs.append_trimmed.Tie as tie
 
-behind-last-requires : tie.Need-behind-last-requires
-behind-last-requires c κs = search needs
+end-of-last-requires : tie.Need-end-of-last-requires
+end-of-last-requires c κs = search needs
 
 slice-aggregate-append : tie.Need-slice-aggregate-append
-slice-aggregate-append c = rw (c .before .before .behind-last .ensures) (sym (trimmed-length _ .0))
+slice-aggregate-append c = rw (c .before .before .end-of-last .ensures) (sym (trimmed-length _ .0))
 
 append-requires : tie.Need-append-requires
-append-requires c κs = rw (c .before .before .behind-last .ensures) (omega (arith, trimmed-length (c .before .before .before .before .before .args .piece .now)))
+append-requires c κs = rw (c .before .before .end-of-last .ensures) (omega (arith, trimmed-length (c .before .before .before .before .before .args .piece .now)))
 
 same-length : tie.Need-same-length
 same-length c = search needs
 
 returns : tie.Need-returns
-returns c = rw (← c .before .before .before .before .before .behind-last .ensures) (c .before .before .append .ensures)
+returns c = rw (← c .before .before .before .before .before .end-of-last .ensures) (c .before .before .append .ensures)
 
 pub append-trimmed-spec : {M : Type 1} → statement M
 append-trimmed-spec =
     tie.close
-    (tie.spec behind-last-requires slice-aggregate-append append-requires same-length returns)
+    (tie.spec end-of-last-requires slice-aggregate-append append-requires same-length returns)

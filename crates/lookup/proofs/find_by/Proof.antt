@@ -12,16 +12,16 @@ use Rattle.lookup.proofs.find_by.Statement.{statement}
 use Rattle.lookup.proofs.find_by.Tie as tie
 
 -- the slot's entry is one of the first, and begins where the index says
-below : (c : tie.Else1) → c .before .wide .result - 1 < c .before .before .before .before .before .args .first
+below : (c : tie.Else1) → c .before .to-usize .result - 1 < c .before .before .before .before .before .args .first
 below c =
     let n = c .before .before .before .before .before in
     omega (arith, n .pre .1 .1 .1 .1 .kept (n .args .hash))
 
-begins : (c : tie.Else1) → Standing (c .before .before .before .before .before .args .s .now) (countIn (c .before .before .before .before .before .args .s .now)) (c .before .wide .result - 1) (getD (c .before .before .before .before .before .args .starts .now) (c .before .wide .result - 1) 0)
+begins : (c : tie.Else1) → Standing (c .before .before .before .before .before .args .s .now) (countIn (c .before .before .before .before .before .args .s .now)) (c .before .to-usize .result - 1) (getD (c .before .before .before .before .before .args .starts .now) (c .before .to-usize .result - 1) 0)
 begins c = c .before .before .before .before .before .pre .1 .1 .1 .1 .begins _ (below c)
 
 -- its name lies within the bytes
-inside : (c : tie.After-length-at) → getD (c .before .before .before .before .before .before .before .before .args .starts .now) (c .before .before .before .before .wide .result - 1) 0 + c .length-at .result ≤ length (c .before .before .before .before .before .before .before .before .args .s .now)
+inside : (c : tie.After-length-at) → getD (c .before .before .before .before .before .before .before .before .args .starts .now) (c .before .before .before .before .to-usize .result - 1) 0 + c .length-at .result ≤ length (c .before .before .before .before .before .before .before .before .args .s .now)
 inside c =
     let b = c .before .before .before in
     omega (arith, standing-within (begins b) (omega (arith, below b)) (c .length-at .ensures .0))
@@ -29,7 +29,7 @@ inside c =
 returns : tie.Need-returns
 returns c =
     let p = c .before .before .before .before .before .pre in
-    finds-none (slot-empty (p .1 .1 .1 .1) _ (rw (← p .0) (sym (c .before .wide .ensures .0) ∙ c .if1 .taken)))
+    finds-none (slot-empty (p .1 .1 .1 .1) _ (rw (← p .0) (sym (c .before .to-usize .ensures .0) ∙ c .if1 .taken)))
 
 element-copy-out-at : tie.Need-element-copy-out-at
 element-copy-out-at c = omega (arith, below c)
@@ -58,8 +58,8 @@ pub find-by-spec : {M : Type 1} → statement M
 find-by-spec =
     tie.close
     (tie.spec
-    (λ c. search needs)  -- element-copy-out-wide
-    (λ c κs. search needs)  -- wide-requires
+    (λ c. search needs)  -- element-copy-out-to-usize
+    (λ c κs. search needs)  -- to-usize-requires
     returns
     (λ c. search needs)  -- sub-k
     (λ c. search needs)  -- mul-at

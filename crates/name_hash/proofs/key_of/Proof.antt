@@ -10,11 +10,11 @@ use Rattle.name_hash.proofs.key_of.Tie as tie
 
 returns : tie.Need-returns
 unfolding keyOf
-returns c = rw (le-leb _ _ (c .before .before .if1 .taken), ← c .before .le8 .ensures, ← c .le82 .ensures)
+returns c = rw (le-leb _ _ (c .before .before .if1 .taken), ← c .before .read-u64 .ensures, ← c .read-u642 .ensures)
 
 returns-2 : tie.Need-returns-2
 unfolding keyOf
-returns-2 c = rw (lt-leb _ _ (c .before .before .before .if1 .left), le-leb _ _ (c .before .before .if2 .taken), ← c .before .le4 .ensures .0, ← c .le42 .ensures .0)
+returns-2 c = rw (lt-leb _ _ (c .before .before .before .if1 .left), le-leb _ _ (c .before .before .if2 .taken), ← c .before .read-u32 .ensures .0, ← c .read-u322 .ensures .0)
 
 cast-result : tie.Need-cast-result
 cast-result c = omega (arith, c .shared-slice-known2 .given 0)
@@ -65,12 +65,12 @@ pub key-of-spec : {M : Type 1} → statement M
 key-of-spec =
     tie.close
     (tie.spec
-    (λ c κs. search needs)  -- le8-requires
-    (λ c κs. search needs)  -- le8-requires-2
+    (λ c κs. search needs)  -- read-u64-requires
+    (λ c κs. search needs)  -- read-u64-requires-2
     (λ c. search needs)  -- add-result
     returns
-    (λ c κs. search needs)  -- le4-requires
-    (λ c κs. search needs)  -- le4-requires-2
+    (λ c κs. search needs)  -- read-u32-requires
+    (λ c κs. search needs)  -- read-u32-requires-2
     (λ c. search needs)  -- mul-result
     (λ c. search needs)  -- add-result-2
     returns-2

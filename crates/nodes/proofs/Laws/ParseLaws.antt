@@ -7,23 +7,23 @@ use native.Mathlib.Omega.{arith}
 use lib.Dec.{eqb}
 use lib.ListN.{length, take, getD, length-append, length-set}
 use Rattle.refusals.specs.declared.Refusal.{Refusal}
-use Rattle.refusals.specs.Refusals.{refusal, openBracket, emptyList}
+use Rattle.refusals.specs.Refusals.{refusal, bracketExpected, emptyList}
 use Rattle.tokens.specs.declared.Token.{Token}
 use Rattle.tokens.specs.Token.{tokensFrom}
 use Rattle.rules.specs.Rule.{Leaf, Join, all, any, Rule, leaf, node, Rules, nil, more, size, sizes}
 use Rattle.image.specs.Encode.{joinKind, tag, joinArg, leafName, tags, tagsAll, args, argsAll, names, namesAll}
 use Rattle.image.proofs.Laws.EncodeLaws.{length-tags, length-tagsAll}
-use Rattle.grammar.specs.Grammar.{Rest, rest, missing, after, andSign, orSign, commaSign, closeSign, firstPlace, aLeaf, aGroup, aList, refused, headIn, chain, Got, got, bad, onto, onRest, closeAfter, orIn, orMore, andIn, andMore, primaryIn, listMore}
+use Rattle.grammar.specs.Grammar.{Rest, rest, missing, after, andSign, orSign, commaSign, closeSign, firstPlace, aLeaf, aGroup, aList, refused, primaryStart, chain, ParseResult, got, bad, onto, onRest, closeAfter, orIn, orMore, andIn, andMore, primaryIn, listMore}
 use Rattle.grammar.specs.Inner.Heads.{left}
 use Rattle.nodes.specs.Inner.Parses.{Arrays, Long, Holds, Read, Parsed, Written, Joined, keepIf}
 use Rattle.nodes.proofs.Laws.ArrayLaws.{holds-as, holds-join, holds-push, holds-none, front, rebased}
 use Rattle.nodes.proofs.Laws.ChainLaws.{Chains, by-all, by-any, chained}
-use Rattle.nodes.specs.declared.Reach.{Reach}
-use Rattle.nodes.specs.declared.Reach.the-variants.{Done, Refused}
+use Rattle.nodes.specs.declared.ParseEnd.{ParseEnd}
+use Rattle.nodes.specs.declared.ParseEnd.the-variants.{Done, Refused}
 
 -- ---- an answer, by its case
-module _ {G : ℕ → Got} {need : ℕ} {s : List ℕ} {at n m : ℕ} {b a : Arrays} where
-  pub gave-done : {r : Reach} {e n₁ m₁ : ℕ} → r ≡ Done e n₁ m₁ → Read G need s at n m b a e n₁ m₁ → Parsed G need s at n m b a r
+module _ {G : ℕ → ParseResult} {need : ℕ} {s : List ℕ} {at n m : ℕ} {b a : Arrays} where
+  pub gave-done : {r : ParseEnd} {e n₁ m₁ : ℕ} → r ≡ Done e n₁ m₁ → Read G need s at n m b a e n₁ m₁ → Parsed G need s at n m b a r
   gave-done {r} {e} {n₁} {m₁} h read = record {
     done = λ e′ n′ m′ q.
         let qe : e ≡ e′ = cc in
@@ -33,7 +33,7 @@ module _ {G : ℕ → Got} {need : ℕ} {s : List ℕ} {at n m : ℕ} {b a : Arr
     refused = λ x q. let z : _≡_ {A = ℕ} 0 1 = cc in absurd (omega arith);
   }
 
-  pub gave-refused : {r : Reach} {x : Refusal} → r ≡ Refused x → ((f : ℕ) → need ≤ f → G f ≡ bad x) → Parsed G need s at n m b a r
+  pub gave-refused : {r : ParseEnd} {x : Refusal} → r ≡ Refused x → ((f : ℕ) → need ≤ f → G f ≡ bad x) → Parsed G need s at n m b a r
   gave-refused {r} {x} h not = record {
     done = λ e n₁ m₁ q. let z : _≡_ {A = ℕ} 0 1 = cc in absurd (omega arith);
     refused = λ x′ q f le.
@@ -57,7 +57,7 @@ module _ {G : ℕ → Got} {need : ℕ} {s : List ℕ} {at n m : ℕ} {b a : Arr
   }
 
 -- ---- a level of the grammar, `or` or `and`: G reads at `at`, Op reads an operand, More goes on after what was read
-pub record Level (s : List ℕ) (G : ℕ → Got) (More : ℕ → Got → Got) (Op : ℕ → ℕ → Got) (sign : ℕ) (j : Join) (at : ℕ) : Type 0 where
+pub record Level (s : List ℕ) (G : ℕ → ParseResult) (More : ℕ → ParseResult → ParseResult) (Op : ℕ → ℕ → ParseResult) (sign : ℕ) (j : Join) (at : ℕ) : Type 0 where
   pub chains : Chains j
   pub starts : (f : ℕ) → G (suc f) ≡ More f (Op f at)
   pub fails : (f : ℕ) (x : Refusal) → More (suc f) (bad x) ≡ bad x
@@ -65,7 +65,7 @@ pub record Level (s : List ℕ) (G : ℕ → Got) (More : ℕ → Got → Got) (
   pub turns : (f : ℕ) (t : Rule) (e y : ℕ) → after sign (tokensFrom s e) ≡ rest (tokensFrom s y) → More (suc f) (got t (tokensFrom s e)) ≡ More f (onto j t (Op f y))
 
 -- what a loop has read so far
-pub record Sofar (G : ℕ → Got) (More : ℕ → Got → Got) (need : ℕ) (s : List ℕ) (at n m : ℕ) (cap : ℕ) (b a : Arrays) (e n₁ m₁ : ℕ) : Type 0 where
+pub record Sofar (G : ℕ → ParseResult) (More : ℕ → ParseResult → ParseResult) (need : ℕ) (s : List ℕ) (at n m : ℕ) (cap : ℕ) (b a : Arrays) (e n₁ m₁ : ℕ) : Type 0 where
   pub tree : Rule
   pub says : (f : ℕ) → need ≤ f → (g : ℕ) × (3 * left s e + 1 ≤ g) × (G f ≡ More g (got tree (tokensFrom s e)))
   pub on : at < e
@@ -77,7 +77,7 @@ pub record Sofar (G : ℕ → Got) (More : ℕ → Got → Got) (need : ℕ) (s 
   pub holds : Holds b a n m n₁ m₁ (tags tree) (args tree m) (names tree)
   pub long : Long cap a
 
-module _ {s : List ℕ} {G : ℕ → Got} {More : ℕ → Got → Got} {Op : ℕ → ℕ → Got} {sign : ℕ} {j : Join} {at : ℕ} (L : Level s G More Op sign j at) where
+module _ {s : List ℕ} {G : ℕ → ParseResult} {More : ℕ → ParseResult → ParseResult} {Op : ℕ → ℕ → ParseResult} {sign : ℕ} {j : Join} {at : ℕ} (L : Level s G More Op sign j at) where
   -- the first operand was refused
   pub first-refused : {need need′ : ℕ} {x : Refusal} → (1 ≤ need) × (need + 1 ≤ need′) → ((f : ℕ) → need ≤ f → Op f at ≡ bad x) → (f : ℕ) → need′ ≤ f → G f ≡ bad x
   first-refused {need} {need′} {x} pos not f h = go f h
@@ -133,7 +133,7 @@ module _ {s : List ℕ} {G : ℕ → Got} {More : ℕ → Got → Got} {Op : ℕ
         done : (g : ℕ) → 3 * left s e + 1 ≤ g → More g (got (l .tree) (tokensFrom s e)) ≡ bad x
         done zero h = absurd (omega arith)
         done (suc zero) h = absurd (omega arith)
-        done (suc (suc g)) h = L .turns (suc g) (l .tree) e y is ∙ ap (λ (o : Got). More (suc g) (onto j (l .tree) o)) (not (suc g) (omega arith)) ∙ L .fails g x
+        done (suc (suc g)) h = L .turns (suc g) (l .tree) e y is ∙ ap (λ (o : ParseResult). More (suc g) (onto j (l .tree) o)) (not (suc g) (omega arith)) ∙ L .fails g x
 
     -- the operand after it was read
     pub turn : {need need₂ n m cap : ℕ} {b a a₂ a₃ : Arrays} {n₁ m₁ k e₂ n₂ m₂ : ℕ} → e < y → n ≤ cap → Long cap b → Sofar G More need s at n m cap b a e n₁ m₁
@@ -161,10 +161,10 @@ module _ {s : List ℕ} {G : ℕ → Got} {More : ℕ → Got → Got} {Op : ℕ
       where
         says₂ : (g : ℕ) → 3 * left s e + 1 ≤ g → (g₂ : ℕ) × (3 * left s e₂ + 1 ≤ g₂) × (More g (got (l .tree) (tokensFrom s e)) ≡ More g₂ (got (chain j (l .tree) (r .tree)) (tokensFrom s e₂)))
         says₂ zero h = absurd (omega arith)
-        says₂ (suc g) h = (g, omega (arith, r .fewer), L .turns g (l .tree) e y is ∙ ap (λ (o : Got). More g (onto j (l .tree) o)) (r .says g (omega arith)))
+        says₂ (suc g) h = (g, omega (arith, r .fewer), L .turns g (l .tree) e y is ∙ ap (λ (o : ParseResult). More g (onto j (l .tree) o)) (r .says g (omega arith)))
 
 -- ---- the levels
-pub and-level : (s : List ℕ) (d at : ℕ) → Level s (λ (f : ℕ). andIn f s d (tokensFrom s at)) (λ (f : ℕ) (g : Got). andMore f s d g) (λ (f e : ℕ). primaryIn f s d (tokensFrom s e)) andSign all at
+pub and-level : (s : List ℕ) (d at : ℕ) → Level s (λ (f : ℕ). andIn f s d (tokensFrom s at)) (λ (f : ℕ) (g : ParseResult). andMore f s d g) (λ (f e : ℕ). primaryIn f s d (tokensFrom s e)) andSign all at
 unfolding andIn
 and-level s d at = record {
   chains = by-all;
@@ -174,7 +174,7 @@ and-level s d at = record {
   turns = λ f t e y q. rw q;
 }
 
-pub or-level : (s : List ℕ) (d at : ℕ) → Level s (λ (f : ℕ). orIn f s d (tokensFrom s at)) (λ (f : ℕ) (g : Got). orMore f s d g) (λ (f e : ℕ). andIn f s d (tokensFrom s e)) orSign any at
+pub or-level : (s : List ℕ) (d at : ℕ) → Level s (λ (f : ℕ). orIn f s d (tokensFrom s at)) (λ (f : ℕ) (g : ParseResult). orMore f s d g) (λ (f e : ℕ). andIn f s d (tokensFrom s e)) orSign any at
 unfolding orIn
 or-level s d at = record {
   chains = by-any;
@@ -186,21 +186,21 @@ or-level s d at = record {
 
 -- ---- a primary, by how it begins
 module _ (s : List ℕ) (d at : ℕ) where
-  abbrev Says : Got → Type 0
+  abbrev Says : ParseResult → Type 0
   Says g = (f : ℕ) → 3 * left s at + 1 ≤ f → primaryIn f s d (tokensFrom s at) ≡ g
 
-  pub head-refused : {x : Refusal} → headIn s d (tokensFrom s at) ≡ refused x → Says (bad x)
+  pub head-refused : {x : Refusal} → primaryStart s d (tokensFrom s at) ≡ refused x → Says (bad x)
   unfolding primaryIn
   head-refused q zero le = absurd (omega arith)
   head-refused q (suc f) le = rw q
 
-  head-leaf : {l : Leaf} {us : List Token} → headIn s d (tokensFrom s at) ≡ aLeaf l us → Says (got (leaf l) us)
+  head-leaf : {l : Leaf} {us : List Token} → primaryStart s d (tokensFrom s at) ≡ aLeaf l us → Says (got (leaf l) us)
   unfolding primaryIn
   head-leaf q zero le = absurd (omega arith)
   head-leaf q (suc f) le = rw q
 
   -- a leaf's node was written, and its name if it has one
-  pub leaf-read : (l : Leaf) {e n m : ℕ} {b a : Arrays} {r : Reach} → headIn s d (tokensFrom s at) ≡ aLeaf l (tokensFrom s e)
+  pub leaf-read : (l : Leaf) {e n m : ℕ} {b a : Arrays} {r : ParseEnd} → primaryStart s d (tokensFrom s at) ≡ aLeaf l (tokensFrom s e)
       → (at < e) × (e ≤ length s) × (left s e < left s at) → length (leafName l) + at ≤ e → Written l e n m b a r
       → Parsed (λ (f : ℕ). primaryIn f s d (tokensFrom s at)) (3 * left s at + 1) s at n m b a r
   leaf-read l q h short w =
@@ -217,8 +217,8 @@ module _ (s : List ℕ) (d at : ℕ) where
       }
 
   -- a bracket, with the text going on at e₀
-  module _ {e₀ : ℕ} (q : headIn s d (tokensFrom s at) ≡ aGroup (tokensFrom s e₀)) (h : (at < e₀) × (e₀ ≤ length s) × (left s e₀ < left s at)) where
-    grouped : (g : Got) → ((f : ℕ) → 3 * left s e₀ + 3 ≤ f → orIn f s (d + 1) (tokensFrom s e₀) ≡ g) → Says (closeAfter g)
+  module _ {e₀ : ℕ} (q : primaryStart s d (tokensFrom s at) ≡ aGroup (tokensFrom s e₀)) (h : (at < e₀) × (e₀ ≤ length s) × (left s e₀ < left s at)) where
+    grouped : (g : ParseResult) → ((f : ℕ) → 3 * left s e₀ + 3 ≤ f → orIn f s (d + 1) (tokensFrom s e₀) ≡ g) → Says (closeAfter g)
     unfolding primaryIn
     grouped g inner zero le = absurd (omega arith)
     grouped g inner (suc f) le = rw q (ap closeAfter (inner f (omega arith)))
@@ -227,18 +227,18 @@ module _ (s : List ℕ) (d at : ℕ) where
     inner-refused {x} inner = grouped (bad x) inner
 
     module _ {n m : ℕ} {b a : Arrays} {e n₁ m₁ : ℕ} (r : Read (λ (f : ℕ). orIn f s (d + 1) (tokensFrom s e₀)) (3 * left s e₀ + 3) s e₀ n m b a e n₁ m₁) where
-      pub unclosed : {p : ℕ} → after closeSign (tokensFrom s e) ≡ missing → firstPlace (tokensFrom s e) ≡ p → Says (bad (refusal openBracket p))
+      pub unclosed : {p : ℕ} → after closeSign (tokensFrom s e) ≡ missing → firstPlace (tokensFrom s e) ≡ p → Says (bad (refusal bracketExpected p))
       unclosed not pl f le =
           grouped (got (r .tree) (tokensFrom s e)) (r .says) f le
-          ∙ ap (λ (x : Rest). onRest x (λ us. got (r .tree) us) (bad (refusal openBracket (firstPlace (tokensFrom s e))))) not
-          ∙ ap (λ (x : ℕ). bad (refusal openBracket x)) pl
+          ∙ ap (λ (x : Rest). onRest x (λ us. got (r .tree) us) (bad (refusal bracketExpected (firstPlace (tokensFrom s e))))) not
+          ∙ ap (λ (x : ℕ). bad (refusal bracketExpected x)) pl
 
       pub closed : {y : ℕ} → after closeSign (tokensFrom s e) ≡ rest (tokensFrom s y) → (e < y) × (y ≤ length s) × (left s y < left s e) → Read (λ (f : ℕ). primaryIn f s d (tokensFrom s at)) (3 * left s at + 1) s at n m b a y n₁ m₁
       closed shut lt = record {
         tree = r .tree;
         says = λ f le.
             grouped (got (r .tree) (tokensFrom s e)) (r .says) f le
-            ∙ ap (λ (x : Rest). onRest x (λ us. got (r .tree) us) (bad (refusal openBracket (firstPlace (tokensFrom s e))))) shut;
+            ∙ ap (λ (x : Rest). onRest x (λ us. got (r .tree) us) (bad (refusal bracketExpected (firstPlace (tokensFrom s e))))) shut;
         on = omega (arith, r .on);
         within = lt .1;
         fewer = omega (arith, r .fewer);
@@ -263,7 +263,7 @@ pub record Listing (s : List ℕ) (d at : ℕ) (j : Join) (n m cap : ℕ) (b a :
   pub long : Long cap a
 
 module _ (s : List ℕ) (d at : ℕ) (j : Join) where
-  module _ {place e : ℕ} (q : headIn s d (tokensFrom s at) ≡ aList j place (tokensFrom s e)) (h : (at < e) × (e ≤ length s) × (left s e < left s at)) where
+  module _ {place e : ℕ} (q : primaryStart s d (tokensFrom s at) ≡ aList j place (tokensFrom s e)) (h : (at < e) × (e ≤ length s) × (left s e < left s at)) where
     pub list-empty : {us : List Token} → after closeSign (tokensFrom s e) ≡ rest us → Says s d at (bad (refusal emptyList place))
     unfolding primaryIn
     list-empty shut zero le = absurd (omega arith)
@@ -311,7 +311,7 @@ module _ (s : List ℕ) (d at : ℕ) (j : Join) where
       joined = holds-as (holds-join (l .holds) (r .holds)) refl (ap (λ (x : ℕ). argsAll (l .rules) m ++ args (r .tree) x) (l .holds .more-names)) refl
 
       -- neither a comma nor a bracket follows
-      pub list-unclosed : {p : ℕ} → after commaSign (tokensFrom s e₂) ≡ missing → after closeSign (tokensFrom s e₂) ≡ missing → firstPlace (tokensFrom s e₂) ≡ p → Says s d at (bad (refusal openBracket p))
+      pub list-unclosed : {p : ℕ} → after commaSign (tokensFrom s e₂) ≡ missing → after closeSign (tokensFrom s e₂) ≡ missing → firstPlace (tokensFrom s e₂) ≡ p → Says s d at (bad (refusal bracketExpected p))
       unfolding listMore
       list-unclosed c o pl f le = let v = after-item f le in v .2 ∙ rw (c, o, pl)
 

@@ -12,13 +12,13 @@ use Rattle.image.specs.Encode.{leafKind, joinKind, tag, leafArg, joinArg, leafN
 use Rattle.grammar.specs.Inner.Heads.{leafOf}
 use Rattle.grammar.specs.declared.Test.{Test}
 use Rattle.grammar.specs.declared.Test.the-variants.{OlderThan, Readable}
-use Rattle.nodes.specs.declared.Reach.{Reach}
-use Rattle.nodes.specs.declared.Reach.the-variants.{Done}
+use Rattle.nodes.specs.declared.ParseEnd.{ParseEnd}
+use Rattle.nodes.specs.declared.ParseEnd.the-variants.{Done}
 use Rattle.nodes.specs.Inner.Parses.{Arrays, arrays, NameRoom, Written, Joined}
 use Rattle.nodes.proofs.Laws.ArrayLaws.{snoc, holds-none}
 
 -- ---- a leaf
-leaf-written : (l : Leaf) {next n m : ℕ} {b a : Arrays} {r : Reach} → n < length (b .tags) → n < length (b .args)
+leaf-written : (l : Leaf) {next n m : ℕ} {b a : Arrays} {r : ParseEnd} → n < length (b .tags) → n < length (b .args)
     → a .tags ≡ set (b .tags) n (tag (leafKind l) 1) → a .args ≡ set (b .args) n (leafArg l m)
     → take (m + length (leafName l)) (a .names) ≡ take m (b .names) ++ leafName l
     → r ≡ Done next (n + 1) (m + length (leafName l)) → Written l next n m b a r
@@ -37,7 +37,7 @@ leaf-written l {next} {n} {m} {b} {a} lt la p q w e =
       };
     }
 
-pub name-written : {s : List ℕ} {start end next n m : ℕ} {b a : Arrays} {r : Reach} → NameRoom s start end n m b
+pub name-written : {s : List ℕ} {start end next n m : ℕ} {b a : Arrays} {r : ParseEnd} → NameRoom s start end n m b
     → a .tags ≡ set (b .tags) n (tag 0 1) → a .args ≡ set (b .args) n (m * 65536 + (end - start))
     → take (m + (end - start)) (a .names) ≡ take m (b .names) ++ part s start end
     → r ≡ Done next (n + 1) (m + (end - start)) → Written (named (part s start end)) next n m b a r
@@ -49,7 +49,7 @@ name-written {s} {start} {end} {next} {n} {m} {b} {a} room p q w e =
     (e ∙ ap (λ (i : ℕ). Done next (n + 1) (m + i)) long)
 
 -- a leaf without a name, whatever the names are
-module _ {next n m k x : ℕ} {t a t₁ a₁ : List ℕ} {r : Reach} (lt : n < length t) (la : n < length a)
+module _ {next n m k x : ℕ} {t a t₁ a₁ : List ℕ} {r : ParseEnd} (lt : n < length t) (la : n < length a)
     (p : t₁ ≡ set t n (tag k 1)) (q : a₁ ≡ set a n x) (e : r ≡ Done next (n + 1) m) where
   nameless : (l : Leaf) → leafName l ≡ [] → k ≡ leafKind l → x ≡ leafArg l m → (w : List ℕ) → Written l next n m (arrays t a w) (arrays t₁ a₁ w) r
   nameless l z qk qx w =

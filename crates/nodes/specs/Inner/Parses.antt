@@ -10,10 +10,10 @@ use Rattle.refusals.specs.declared.Refusal.{Refusal}
 use Rattle.tokens.specs.Token.{tokensFrom}
 use Rattle.rules.specs.Rule.{Leaf, Join, Rule, leaf}
 use Rattle.image.specs.Encode as image
-use Rattle.grammar.specs.Grammar.{Got, got, bad}
+use Rattle.grammar.specs.Grammar.{ParseResult, got, bad}
 use Rattle.grammar.specs.Inner.Heads.{left}
-use Rattle.nodes.specs.declared.Reach.{Reach}
-use Rattle.nodes.specs.declared.Reach.the-variants.{Done, Refused}
+use Rattle.nodes.specs.declared.ParseEnd.{ParseEnd}
+use Rattle.nodes.specs.declared.ParseEnd.the-variants.{Done, Refused}
 
 -- the three lent arrays
 pub record Arrays : Type 0 where
@@ -51,7 +51,7 @@ pub record Holds (b a : Arrays) (n m n₁ m₁ : ℕ) (T A N : List ℕ) : Type 
   pub more-names : m₁ ≡ m + length N
 
 -- after it: G, with fuel enough, reads a rule and leaves the tokens from e on, and the rule's nodes stand behind the first n
-pub record Read (G : ℕ → Got) (need : ℕ) (s : List ℕ) (at n m : ℕ) (b a : Arrays) (e n₁ m₁ : ℕ) : Type 0 where
+pub record Read (G : ℕ → ParseResult) (need : ℕ) (s : List ℕ) (at n m : ℕ) (b a : Arrays) (e n₁ m₁ : ℕ) : Type 0 where
   pub tree : Rule
   pub says : (f : ℕ) → need ≤ f → G f ≡ got tree (tokensFrom s e)
   pub on : at < e
@@ -63,7 +63,7 @@ pub record Read (G : ℕ → Got) (need : ℕ) (s : List ℕ) (at n m : ℕ) (b 
   pub holds : Holds b a n m n₁ m₁ (image.tags tree) (image.args tree m) (image.names tree)
 
 -- either case of an answer
-pub record Parsed (G : ℕ → Got) (need : ℕ) (s : List ℕ) (at n m : ℕ) (b a : Arrays) (r : Reach) : Type 0 where
+pub record Parsed (G : ℕ → ParseResult) (need : ℕ) (s : List ℕ) (at n m : ℕ) (b a : Arrays) (r : ParseEnd) : Type 0 where
   pub done : (e n₁ m₁ : ℕ) → r ≡ Done e n₁ m₁ → Read G need s at n m b a e n₁ m₁
   pub refused : (x : Refusal) → r ≡ Refused x → (f : ℕ) → need ≤ f → G f ≡ bad x
 
@@ -79,7 +79,7 @@ pub record NameRoom (s : List ℕ) (start end n m : ℕ) (b : Arrays) : Type 0 w
   pub long : Long (length (b .tags)) b
 
 -- a leaf's node was written after the first n nodes of b, its name after the first m name bytes, and the text goes on at `next`
-pub record Written (l : Leaf) (next n m : ℕ) (b a : Arrays) (r : Reach) : Type 0 where
+pub record Written (l : Leaf) (next n m : ℕ) (b a : Arrays) (r : ParseEnd) : Type 0 where
   pub reached : r ≡ Done next (n + 1) (m + length (image.leafName l))
   pub holds : Holds b a n m (n + 1) (m + length (image.leafName l)) (image.tags (leaf l)) (image.args (leaf l) m) (image.names (leaf l))
 

@@ -5,7 +5,7 @@ use Prim.Native.Nat.{ℕ, _≤_, _<_}
 use native.Mathlib.Omega.{arith}
 use borrow.Author.Tests.{lt-ltb, le-ltb}
 use lib.ListN.{length, take}
-use Rattle.store_table.specs.Stores.{Entry, Laid, entriesIn}
+use Rattle.store_table.specs.Stores.{Entry, TableInBounds, entriesIn}
 use Rattle.store_table.specs.TableBytes.{tableOf}
 use Rattle.store_table.proofs.Laws.TableBytesLaws.{table-length, sum-few, table-of, table-laid}
 use Rattle.verdict.specs.declared.Verdict.{Verdict}
@@ -33,7 +33,7 @@ pub record Given (args buffer : List ℕ) (n : ℕ) : Type 0 where
   pub within : n ≤ length buffer
   pub bytes : take n buffer ≡ tableOf all
   pub back : entriesIn (take n buffer) ≡ all
-  pub laid : Laid (take n buffer)
+  pub laid : TableInBounds (take n buffer)
   pub small : length (take n buffer) ≤ 16_452
 
 pub given : {args buffer : List ℕ} {r : Made} {n : ℕ} → length (split args) ≤ 64 → MadeOf (storesIn args) buffer r → r ≡ Table n → Given args buffer n

@@ -20,15 +20,15 @@ use Rattle.tokens.specs.Token.{ascii, placeOf, nextOf, tokenAt, onward, tokensF
 use Rattle.tokens.proofs.Laws.TokenLaws.{tokens-are}
 use Rattle.image.specs.Encode.{tags, args, names}
 use Rattle.image.proofs.Laws.EncodeLaws.{length-tags}
-use Rattle.grammar.specs.Grammar.{tokenKind, Got, got, bad, orIn}
+use Rattle.grammar.specs.Grammar.{tokenKind, ParseResult, got, bad, orIn}
 use Rattle.grammar.specs.Reading.{Read, rule, refused, atEnd, ended, parseOf, scannedOf, readOf}
 use Rattle.grammar.specs.Inner.Heads.{left}
 use Rattle.grammar.proofs.Laws.TokenListLaws.{first-place}
 use Rattle.grammar.proofs.Laws.CleanLaws.{read-clean}
 use Rattle.nodes.specs.Inner.Parses as parses
 use Rattle.nodes.specs.Inner.Parses.{Arrays}
-use Rattle.nodes.specs.declared.Reach.{Reach}
-use Rattle.nodes.specs.declared.Reach.the-variants.{Done, Refused as Failed}
+use Rattle.nodes.specs.declared.ParseEnd.{ParseEnd}
+use Rattle.nodes.specs.declared.ParseEnd.the-variants.{Done, Refused as Failed}
 use Rattle.parse_text.specs.Inner.Parsing.{Whole, Answered, Ended, Finished}
 
 -- ---- an answer, by its case
@@ -39,14 +39,14 @@ module _ {W : ℕ → ℕ → Type 0} {x : Read} where
     refused = λ f q. let z : _≡_ {A = ℕ} 0 1 = cc in absurd (omega arith);
   }
 
-  pub answered-refused : {r : Reach} {f : Refusal} → r ≡ Failed f → x ≡ refused f → Answered W x r
+  pub answered-refused : {r : ParseEnd} {f : Refusal} → r ≡ Failed f → x ≡ refused f → Answered W x r
   answered-refused {r} {f} h e = record {
     done = λ e′ n m q. let z : _≡_ {A = ℕ} 0 1 = cc in absurd (omega arith);
     refused = λ g q. let qf : f ≡ g = cc in rw (← qf) e;
   }
 
 -- what was parsed is what the text reads as, where no test before refuses it
-pub finished-ended : {s : List ℕ} {a : Arrays} {r : Reach} → readOf s ≡ parseOf s → Ended s a r → Finished s a r
+pub finished-ended : {s : List ℕ} {a : Arrays} {r : ParseEnd} → readOf s ≡ parseOf s → Ended s a r → Finished s a r
 finished-ended q p = record { done = λ e n m h. rw q (p .done e n m h .1); refused = λ f h. q ∙ p .refused f h }
 
 -- ---- the tests before the parse
@@ -66,7 +66,7 @@ module _ (s : List ℕ) (fits : length s ≤ 2048) where
 
 -- ---- the parse
 module _ (s : List ℕ) where
-  parsed-as : (g : Got) → ((f : ℕ) → 3 * left s 0 + 3 ≤ f → orIn f s 0 (tokensFrom s 0) ≡ g) → parseOf s ≡ ended g
+  parsed-as : (g : ParseResult) → ((f : ℕ) → 3 * left s 0 + 3 ≤ f → orIn f s 0 (tokensFrom s 0) ≡ g) → parseOf s ≡ ended g
   unfolding parseOf
   parsed-as g h = ap ended (h (3 * left s 0 + 3) (omega arith))
 

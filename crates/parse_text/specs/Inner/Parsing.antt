@@ -12,8 +12,8 @@ use Rattle.rules.specs.Rule.{Rule, size}
 use Rattle.image.specs.Encode as image
 use Rattle.grammar.specs.Reading.{Read, rule, refused as unread, parseOf, readOf}
 use Rattle.nodes.specs.Inner.Parses.{Arrays, Long}
-use Rattle.nodes.specs.declared.Reach.{Reach}
-use Rattle.nodes.specs.declared.Reach.the-variants.{Done, Refused}
+use Rattle.nodes.specs.declared.ParseEnd.{ParseEnd}
+use Rattle.nodes.specs.declared.ParseEnd.the-variants.{Done, Refused}
 
 -- the table has no faults, and the arrays have room for a node and for a name byte for each byte of the text
 pub record Ready (class s : List ℕ) (b : Arrays) : Type 0 where
@@ -35,14 +35,14 @@ pub record Whole (x : Read) (s : List ℕ) (a : Arrays) (n m : ℕ) : Type 0 whe
   pub short : m ≤ length s
 
 -- either case of an answer: W of the numbers of nodes and name bytes, or x is the refusal
-pub record Answered (W : ℕ → ℕ → Type 0) (x : Read) (r : Reach) : Type 0 where
+pub record Answered (W : ℕ → ℕ → Type 0) (x : Read) (r : ParseEnd) : Type 0 where
   pub done : (e n m : ℕ) → r ≡ Done e n m → W n m
   pub refused : (f : Refusal) → r ≡ Refused f → x ≡ unread f
 
 -- the text was parsed, and no token of it is a fault where it parses as a rule
-abbrev pub Ended : List ℕ → Arrays → Reach → Type 0
+abbrev pub Ended : List ℕ → Arrays → ParseEnd → Type 0
 Ended s a r = Answered (λ n m. (scanOf (tokensFrom s 0) ≡ Clean) × Whole (parseOf s) s a n m) (parseOf s) r
 
 -- the text was read
-abbrev pub Finished : List ℕ → Arrays → Reach → Type 0
+abbrev pub Finished : List ℕ → Arrays → ParseEnd → Type 0
 Finished s a r = Answered (Whole (readOf s) s a) (readOf s) r

@@ -10,7 +10,7 @@ use lib.ListN.{length}
 use Rattle.tokens.specs.Token.{tokensFrom}
 use Rattle.rules.specs.Rule.{all, any}
 use Rattle.image.specs.Encode.{joinKind}
-use Rattle.grammar.specs.Grammar.{andSign, orSign, Got, orIn, orMore, andIn, andMore}
+use Rattle.grammar.specs.Grammar.{andSign, orSign, ParseResult, orIn, orMore, andIn, andMore}
 use Rattle.grammar.specs.Inner.Heads.{joinOf, headNext, left}
 use Rattle.grammar.proofs.Laws.HeadLaws.{head-is, head-ahead}
 use Rattle.nodes.specs.Inner.Parses.{arrays}
@@ -32,7 +32,7 @@ use Rattle.endings.proofs.close_list.Reads as close-list-reads
 use Rattle.endings.proofs.first_argument.Reads as first-argument-reads
 use Rattle.endings.proofs.next_argument.Reads as next-argument-reads
 use Rattle.endings.proofs.next_operand.Reads as next-operand-reads
-use Rattle.heads.proofs.head_at.Reads as head-at-reads
+use Rattle.primary_start.proofs.primary_start_at.Reads as primary-start-at-reads
 use Rattle.nodes.proofs.push_combinator.Reads as push-combinator-reads
 use Rattle.nodes.proofs.push_name.Reads as push-name-reads
 use Rattle.nodes.proofs.push_test.Reads as push-test-reads
@@ -77,7 +77,7 @@ parse-primary-below t =
 -- ---- parse_and
 abbrev parse-and-Inv-loop : parse-and-lts.InvT-loop
 parse-and-Inv-loop text at depth tags₀ args₀ names₀ n m class e k q at1₀ n1₀ m1₀ tags args names at1 n1 m1 =
-    Chaining (λ (f : ℕ). andIn f text depth (tokensFrom text at)) (λ (f : ℕ) (g : Got). andMore f text depth g) (3 * left text at + 2) class text at depth n m (arrays tags₀ args₀ names₀) (arrays tags args names) at1 n1 m1
+    Chaining (λ (f : ℕ). andIn f text depth (tokensFrom text at)) (λ (f : ℕ) (g : ParseResult). andMore f text depth g) (3 * left text at + 2) class text at depth n m (arrays tags₀ args₀ names₀) (arrays tags args names) at1 n1 m1
 
 abbrev parse-and-μ-loop : parse-and-lts.MeasureT-loop
 parse-and-μ-loop text at depth tags₀ args₀ names₀ n m class e k q at1₀ n1₀ m1₀ tags args names at1 n1 m1 = left text at1
@@ -174,7 +174,7 @@ parse-and-loop-again t c =
 -- ---- parse_or
 abbrev parse-or-Inv-loop : parse-or-lts.InvT-loop
 parse-or-Inv-loop text at depth tags₀ args₀ names₀ n m class e k q at1₀ n1₀ m1₀ tags args names at1 n1 m1 =
-    Chaining (λ (f : ℕ). orIn f text depth (tokensFrom text at)) (λ (f : ℕ) (g : Got). orMore f text depth g) (3 * left text at + 3) class text at depth n m (arrays tags₀ args₀ names₀) (arrays tags args names) at1 n1 m1
+    Chaining (λ (f : ℕ). orIn f text depth (tokensFrom text at)) (λ (f : ℕ) (g : ParseResult). orMore f text depth g) (3 * left text at + 3) class text at depth n m (arrays tags₀ args₀ names₀) (arrays tags args names) at1 n1 m1
 
 abbrev parse-or-μ-loop : parse-or-lts.MeasureT-loop
 parse-or-μ-loop text at depth tags₀ args₀ names₀ n m class e k q at1₀ n1₀ m1₀ tags args names at1 n1 m1 = left text at1
@@ -277,21 +277,21 @@ abbrev parse-primary-μ-loop : parse-primary-lts.MeasureT-loop
 parse-primary-μ-loop text at depth tags₀ args₀ names₀ n m class combinator place next argument₀ tags args names argument = argumentsLeft text argument
 
 abbrev parse-primary-calls : ℕ → parse-primary-lts.Claims
-parse-primary-calls t = (head-at-reads.Asked, head-at-reads.Learnt, push-name-reads.Asked, push-name-reads.Learnt, push-test-reads.Asked, push-test-reads.Learnt, parse-or-below t, parse-or.Post, close-group-reads.Asked, close-group-reads.Learnt, first-argument-reads.Asked, first-argument-reads.Learnt, next-argument-reads.Asked, next-argument-reads.Learnt, close-list-reads.Asked, close-list-reads.Learnt)
+parse-primary-calls t = (primary-start-at-reads.Asked, primary-start-at-reads.Learnt, push-name-reads.Asked, push-name-reads.Learnt, push-test-reads.Asked, push-test-reads.Learnt, parse-or-below t, parse-or.Post, close-group-reads.Asked, close-group-reads.Learnt, first-argument-reads.Asked, first-argument-reads.Learnt, next-argument-reads.Asked, next-argument-reads.Learnt, close-list-reads.Asked, close-list-reads.Learnt)
 
 parse-primary-push-name-requires : (t : ℕ) → parse-primary-lts.Need-push-name-requires (parse-primary-calls t) (parse-primary-at t) parse-primary.Post parse-primary-Inv-loop parse-primary-μ-loop
 parse-primary-push-name-requires t c κs =
     let case = c .before .before .before .before in
     let head = case .before .before in
     let entry = head .before .before .before .before .before in
-    name-room (entry .pre .1) (head .head-at .ensures) (case .start .given .1)
+    name-room (entry .pre .1) (head .primary-start-at .ensures) (case .start .given .1)
 
 parse-primary-push-test-requires : (t : ℕ) → parse-primary-lts.Need-push-test-requires (parse-primary-calls t) (parse-primary-at t) parse-primary.Post parse-primary-Inv-loop parse-primary-μ-loop
 parse-primary-push-test-requires t c κs =
     let case = c .before .before .before in
     let head = case .before .before in
     let entry = head .before .before .before .before .before in
-    test-room (entry .pre .1) (head .head-at .ensures) (case .test .given .1)
+    test-room (entry .pre .1) (head .primary-start-at .ensures) (case .test .given .1)
 
 parse-primary-add-parse-or : (t : ℕ) → parse-primary-lts.Need-add-parse-or (parse-primary-calls t) (parse-primary-at t) parse-primary.Post parse-primary-Inv-loop parse-primary-μ-loop
 parse-primary-add-parse-or t c =
@@ -302,14 +302,14 @@ parse-primary-parse-or-requires t c κs =
     let case = c .before .before .before .before in
     let head = case .before .before in
     let entry = head .before .before .before .before .before in
-    (omega (arith, entry .pre .0, head-ahead (entry .args .at) (head .head-at .ensures) (ap headNext (case .next .given .1))), group-before (entry .pre .1) (head .head-at .ensures) (case .next .given .1))
+    (omega (arith, entry .pre .0, head-ahead (entry .args .at) (head .primary-start-at .ensures) (ap headNext (case .next .given .1))), group-before (entry .pre .1) (head .primary-start-at .ensures) (case .next .given .1))
 
 parse-primary-loop-holds : (t : ℕ) → parse-primary-lts.Need-loop-holds (parse-primary-calls t) (parse-primary-at t) parse-primary.Post parse-primary-Inv-loop parse-primary-μ-loop
 parse-primary-loop-holds t c =
     let case = c .before .before in
     let head = case .before .before in
     let entry = head .before .before .before .before .before in
-    list-first _ _ _ _ (head-is (entry .args .at) (head .head-at .ensures) (case .combinator .given .1)) (head-ahead (entry .args .at) (head .head-at .ensures) (ap headNext (case .combinator .given .1))) (entry .pre .1 .long) (c .first-argument .ensures)
+    list-first _ _ _ _ (head-is (entry .args .at) (head .primary-start-at .ensures) (case .combinator .given .1)) (head-ahead (entry .args .at) (head .primary-start-at .ensures) (ap headNext (case .combinator .given .1))) (entry .pre .1 .long) (c .first-argument .ensures)
 
 parse-primary-add-parse-or-2 : (t : ℕ) → parse-primary-lts.Need-add-parse-or-2 (parse-primary-calls t) (parse-primary-at t) parse-primary.Post parse-primary-Inv-loop parse-primary-μ-loop
 parse-primary-add-parse-or-2 t c =
@@ -381,35 +381,35 @@ parse-primary-returns-2 t c =
     let case = c .before in
     let head = case .before .before in
     let entry = head .before .before .before .before .before in
-    primary-refused (entry .pre .1) (head .head-at .ensures) (case .f .given .1)
+    primary-refused (entry .pre .1) (head .primary-start-at .ensures) (case .f .given .1)
 
 parse-primary-returns-3 : (t : ℕ) → parse-primary-lts.Need-returns-3 (parse-primary-calls t) (parse-primary-at t) parse-primary.Post parse-primary-Inv-loop parse-primary-μ-loop
 parse-primary-returns-3 t c =
     let case = c .before .before .before .before .before .before .before .before .before .before .before in
     let head = case .before .before in
     let entry = head .before .before .before .before .before in
-    name-read (entry .pre .1) (head .head-at .ensures) (case .start .given .1) (c .before .before .before .before .before .before .push-name .ensures)
+    name-read (entry .pre .1) (head .primary-start-at .ensures) (case .start .given .1) (c .before .before .before .before .before .before .push-name .ensures)
 
 parse-primary-returns-4 : (t : ℕ) → parse-primary-lts.Need-returns-4 (parse-primary-calls t) (parse-primary-at t) parse-primary.Post parse-primary-Inv-loop parse-primary-μ-loop
 parse-primary-returns-4 t c =
     let case = c .before .before .before .before .before .before .before .before in
     let head = case .before .before in
     let entry = head .before .before .before .before .before in
-    test-read (entry .pre .1) (head .head-at .ensures) (case .test .given .1) (c .before .before .before .before .push-test .ensures (entry .args .names .now))
+    test-read (entry .pre .1) (head .primary-start-at .ensures) (case .test .given .1) (c .before .before .before .before .push-test .ensures (entry .args .names .now))
 
 parse-primary-returns-5 : (t : ℕ) → parse-primary-lts.Need-returns-5 (parse-primary-calls t) (parse-primary-at t) parse-primary.Post parse-primary-Inv-loop parse-primary-μ-loop
 parse-primary-returns-5 t c =
     let case = c .before .before .before .before .before .before .before .before .before .before .before .before .before .before in
     let head = case .before .before in
     let entry = head .before .before .before .before .before in
-    group-refused (entry .pre .1) (head .head-at .ensures) (case .next .given .1) (c .before .before .before .before .before .before .before .before .before .parse-or .ensures) (c .before .inner .given .1)
+    group-refused (entry .pre .1) (head .primary-start-at .ensures) (case .next .given .1) (c .before .before .before .before .before .before .before .before .before .parse-or .ensures) (c .before .inner .given .1)
 
 parse-primary-returns-6 : (t : ℕ) → parse-primary-lts.Need-returns-6 (parse-primary-calls t) (parse-primary-at t) parse-primary.Post parse-primary-Inv-loop parse-primary-μ-loop
 parse-primary-returns-6 t c =
     let case = c .before .before .before .before .before .before .before .before .before .before .before .before .before .before .before in
     let head = case .before .before in
     let entry = head .before .before .before .before .before in
-    group-done (entry .pre .1) (head .head-at .ensures) (case .next .given .1) (c .before .before .before .before .before .before .before .before .before .before .parse-or .ensures) (c .before .before .inner2 .given .1) (c .close-group .ensures)
+    group-done (entry .pre .1) (head .primary-start-at .ensures) (case .next .given .1) (c .before .before .before .before .before .before .before .before .before .before .parse-or .ensures) (c .before .before .inner2 .given .1) (c .close-group .ensures)
 
 pub +parse-and+parse-or+parse-primary-spec : {M : Type 1} → statement M
 +parse-and+parse-or+parse-primary-spec =
@@ -478,7 +478,7 @@ pub +parse-and+parse-or+parse-primary-spec : {M : Type 1} → statement M
     parse-primary.Post
     parse-primary-Inv-loop
     parse-primary-μ-loop
-    (λ c κs. search needs)  -- head-at-requires
+    (λ c κs. search needs)  -- primary-start-at-requires
     (λ c. search needs)  -- enum-known-f
     (λ c. search needs)  -- enum-known-start
     (parse-primary-push-name-requires t)

@@ -9,14 +9,14 @@ use Rattle.refusals.specs.declared.Refusal.{Refusal}
 use Rattle.tokens.specs.declared.Next.{Next}
 use Rattle.tokens.specs.declared.Next.the-variants.{Off, To}
 use Rattle.tokens.specs.Token.{placeOf, tokenAt, tokensFrom}
-use Rattle.tokens.specs.Inner.Bounds.{behind}
+use Rattle.tokens.specs.Inner.Bounds.{nextOfClass}
 use Rattle.rules.specs.Rule.{Join}
-use Rattle.grammar.specs.Grammar.{bad, after, missing, closeSign, commaSign, aGroup, aList, headIn, orIn, primaryIn}
+use Rattle.grammar.specs.Grammar.{bad, after, missing, closeSign, commaSign, aGroup, aList, primaryStart, orIn, primaryIn}
 use Rattle.grammar.specs.Inner.Heads.{left}
 use Rattle.grammar.proofs.Laws.TokenListLaws.{first-place}
 use Rattle.grammar.proofs.Laws.BehindLaws.{test-on, test-off}
-use Rattle.nodes.specs.declared.Reach.{Reach}
-use Rattle.nodes.specs.declared.Reach.the-variants.{Done, Refused}
+use Rattle.nodes.specs.declared.ParseEnd.{ParseEnd}
+use Rattle.nodes.specs.declared.ParseEnd.the-variants.{Done, Refused}
 use Rattle.nodes.specs.Inner.Parses.{Arrays, Long, Before, Read, Parsed, Joined}
 use Rattle.nodes.proofs.Laws.ArrayLaws.{still}
 use Rattle.nodes.proofs.Laws.ParseLaws.{gave-done, gave-refused, unclosed, closed, Listing, list-empty, list-begin, item-refused, list-unclosed, list-turn, list-stop}
@@ -26,11 +26,11 @@ use Rattle.endings.specs.declared.Argument.the-variants.{At, End}
 use Rattle.parser.proofs.Laws.OperandLaws.{Lengths}
 
 -- ---- a group
-module _ (s : List ℕ) (d at : ℕ) {e₀ : ℕ} (q : headIn s d (tokensFrom s at) ≡ aGroup (tokensFrom s e₀)) (h : (at < e₀) × (e₀ ≤ length s) × (left s e₀ < left s at)) where
-  pub group-read : {n m : ℕ} {b a : Arrays} {e n₁ m₁ : ℕ} {v : Reach} → Read (λ (f : ℕ). orIn f s (d + 1) (tokensFrom s e₀)) (3 * left s e₀ + 3) s e₀ n m b a e n₁ m₁ → v ≡ groupEnd s e n₁ m₁ → Parsed (λ (f : ℕ). primaryIn f s d (tokensFrom s at)) (3 * left s at + 1) s at n m b a v
-  group-read {n} {m} {b} {a} {e} {n₁} {m₁} {v} r w = go (behind closeBracket (tokenAt s e)) refl w
+module _ (s : List ℕ) (d at : ℕ) {e₀ : ℕ} (q : primaryStart s d (tokensFrom s at) ≡ aGroup (tokensFrom s e₀)) (h : (at < e₀) × (e₀ ≤ length s) × (left s e₀ < left s at)) where
+  pub group-read : {n m : ℕ} {b a : Arrays} {e n₁ m₁ : ℕ} {v : ParseEnd} → Read (λ (f : ℕ). orIn f s (d + 1) (tokensFrom s e₀)) (3 * left s e₀ + 3) s e₀ n m b a e n₁ m₁ → v ≡ groupEnd s e n₁ m₁ → Parsed (λ (f : ℕ). primaryIn f s d (tokensFrom s at)) (3 * left s at + 1) s at n m b a v
+  group-read {n} {m} {b} {a} {e} {n₁} {m₁} {v} r w = go (nextOfClass closeBracket (tokenAt s e)) refl w
     where
-      go : (x : Next) → x ≡ behind closeBracket (tokenAt s e) → v ≡ closedBy x (placeOf (tokenAt s e)) n₁ m₁ → Parsed (λ (f : ℕ). primaryIn f s d (tokensFrom s at)) (3 * left s at + 1) s at n m b a v
+      go : (x : Next) → x ≡ nextOfClass closeBracket (tokenAt s e) → v ≡ closedBy x (placeOf (tokenAt s e)) n₁ m₁ → Parsed (λ (f : ℕ). primaryIn f s d (tokensFrom s at)) (3 * left s at + 1) s at n m b a v
       go (To y) p g = let i = test-on s e closeSign p refl in gave-done g (closed s d at q h r (i .sign) (i .bounds))
       go Off p g = gave-refused g (unclosed s d at q h r (test-off s e closeSign p (omega arith) (omega arith) refl) (first-place s e refl))
 
@@ -87,26 +87,26 @@ module _ {s : List ℕ} {d at : ℕ} {j : Join} {n m cap : ℕ} {b a : Arrays} {
   }
 
 -- what reading an argument at e promises
-abbrev Item : List ℕ → ℕ → (e n m : ℕ) → (b a : Arrays) → Reach → Type 0
+abbrev Item : List ℕ → ℕ → (e n m : ℕ) → (b a : Arrays) → ParseEnd → Type 0
 Item s d e n m b a r = Parsed (λ (f : ℕ). orIn f s (d + 1) (tokensFrom s e)) (3 * left s e + 3) s e n m b a r
 
 module _ (s : List ℕ) (d at : ℕ) (j : Join) where
   -- before the first turn
-  pub list-first : {place e n m cap : ℕ} {b : Arrays} {v : Argument} → headIn s d (tokensFrom s at) ≡ aList j place (tokensFrom s e) → (at < e) × (e ≤ length s) × (left s e < left s at) → Long cap b → v ≡ firstArgument s place e n m → Arguments s d at j n m cap b b v
-  list-first {place} {e} {n} {m} {cap} {b} {v} q h lb w = go (behind closeBracket (tokenAt s e)) refl w
+  pub list-first : {place e n m cap : ℕ} {b : Arrays} {v : Argument} → primaryStart s d (tokensFrom s at) ≡ aList j place (tokensFrom s e) → (at < e) × (e ≤ length s) × (left s e < left s at) → Long cap b → v ≡ firstArgument s place e n m → Arguments s d at j n m cap b b v
+  list-first {place} {e} {n} {m} {cap} {b} {v} q h lb w = go (nextOfClass closeBracket (tokenAt s e)) refl w
     where
-      go : (x : Next) → x ≡ behind closeBracket (tokenAt s e) → v ≡ firstBy x place e n m → Arguments s d at j n m cap b b v
+      go : (x : Next) → x ≡ nextOfClass closeBracket (tokenAt s e) → v ≡ firstBy x place e n m → Arguments s d at j n m cap b b v
       go (To y) p g = one-refused lb g (list-empty s d at j q h (test-on s e closeSign p refl .sign))
       go Off p g = one-next lb g (list-begin s d at j q h (test-off s e closeSign p (omega arith) (omega arith) refl) lb)
 
   module _ {n m cap : ℕ} {b a : Arrays} {v : Argument} (i : Arguments s d at j n m cap b a v) where
     -- the list's end
-    pub list-room : cap ≤ 2048 → {all : Reach} → v ≡ End all → ListRoom n (a .tags) (a .args) all
+    pub list-room : cap ≤ 2048 → {all : ParseEnd} → v ≡ End all → ListRoom n (a .tags) (a .args) all
     list-room few h e k q is =
         let c = i .done e k q (h ∙ ap End is) in
         record { some = c .some; tags = omega (arith, c .room, i .long); args = omega (arith, c .room, i .long); few = omega (arith, i .long) }
 
-    pub list-end : (all : Reach) {r : Reach} {a₁ : Arrays} → v ≡ End all → ListEnd j n (a .tags) (a .args) (a₁ .tags) (a₁ .args) all r → a₁ .names ≡ a .names → Parsed (λ (f : ℕ). primaryIn f s d (tokensFrom s at)) (3 * left s at + 1) s at n m b a₁ r
+    pub list-end : (all : ParseEnd) {r : ParseEnd} {a₁ : Arrays} → v ≡ End all → ListEnd j n (a .tags) (a .args) (a₁ .tags) (a₁ .args) all r → a₁ .names ≡ a .names → Parsed (λ (f : ℕ). primaryIn f s d (tokensFrom s at)) (3 * left s at + 1) s at n m b a₁ r
     list-end (Done e k q) h w names = let u = w .done e k q refl in gave-done (u .0) (i .done e k q h .written (u .1) names)
     list-end (Refused x) h w names = gave-refused (w .refused x refl) (i .refused x h)
 
@@ -128,20 +128,20 @@ module _ (s : List ℕ) (d at : ℕ) (j : Join) where
     -- an argument was read at e, or refused
     module _ {e n₁ m₁ : ℕ} (is : v ≡ At e n₁ m₁) {a₂ : Arrays} where
       -- fewer tokens are left
-      pub arguments-fewer : {r : Reach} {w : Argument} → Item s d e n₁ m₁ a a₂ r → w ≡ nextArgument s r → argumentsLeft s w < argumentsLeft s v
+      pub arguments-fewer : {r : ParseEnd} {w : Argument} → Item s d e n₁ m₁ a a₂ r → w ≡ nextArgument s r → argumentsLeft s w < argumentsLeft s v
       arguments-fewer {r} {w} p g = rw (is, g) (by r p)
         where
-          next-by : (e₂ n₂ m₂ : ℕ) (end : Reach) → left s e₂ < left s e → (x : Next) → x ≡ behind comma (tokenAt s e₂) → argumentsLeft s (argumentBy x end n₂ m₂) < left s e + 1
+          next-by : (e₂ n₂ m₂ : ℕ) (end : ParseEnd) → left s e₂ < left s e → (x : Next) → x ≡ nextOfClass comma (tokenAt s e₂) → argumentsLeft s (argumentBy x end n₂ m₂) < left s e + 1
           next-by e₂ n₂ m₂ end lt (To y) p = let u = test-on s e₂ commaSign p refl .bounds in omega arith
           next-by e₂ n₂ m₂ end lt Off p = omega arith
 
-          by : (r : Reach) → Item s d e n₁ m₁ a a₂ r → argumentsLeft s (nextArgument s r) < left s e + 1
-          by (Done e₂ n₂ m₂) p = next-by e₂ n₂ m₂ (groupEnd s e₂ n₂ m₂) (p .done e₂ n₂ m₂ refl .fewer) (behind comma (tokenAt s e₂)) refl
+          by : (r : ParseEnd) → Item s d e n₁ m₁ a a₂ r → argumentsLeft s (nextArgument s r) < left s e + 1
+          by (Done e₂ n₂ m₂) p = next-by e₂ n₂ m₂ (groupEnd s e₂ n₂ m₂) (p .done e₂ n₂ m₂ refl .fewer) (nextOfClass comma (tokenAt s e₂)) refl
           by (Refused x) p = omega arith
 
-      pub list-next : (r : Reach) {w : Argument} → n + (length s - at) ≤ cap → Lengths a₂ a → Item s d e n₁ m₁ a a₂ r → w ≡ nextArgument s r → Arguments s d at j n m cap b a₂ w
+      pub list-next : (r : ParseEnd) {w : Argument} → n + (length s - at) ≤ cap → Lengths a₂ a → Item s d e n₁ m₁ a a₂ r → w ≡ nextArgument s r → Arguments s d at j n m cap b a₂ w
       list-next (Refused x) {w} roomy same p g = one-refused (still (i .long) (same .tags) (same .args) (same .names)) g (item-refused s d at j (i .next e n₁ m₁ is) (p .refused x refl))
-      list-next (Done e₂ n₂ m₂) {w} roomy same p g = by-comma (behind comma (tokenAt s e₂)) refl g
+      list-next (Done e₂ n₂ m₂) {w} roomy same p g = by-comma (nextOfClass comma (tokenAt s e₂)) refl g
         where
           l : Listing s d at j n m cap b a e n₁ m₁
           l = i .next e n₁ m₁ is
@@ -152,7 +152,7 @@ module _ (s : List ℕ) (d at : ℕ) (j : Join) where
           la : Long cap a₂
           la = still (i .long) (same .tags) (same .args) (same .names)
 
-          by-close : after commaSign (tokensFrom s e₂) ≡ missing → (x : Next) → x ≡ behind closeBracket (tokenAt s e₂) → w ≡ End (closedBy x (placeOf (tokenAt s e₂)) n₂ m₂) → Arguments s d at j n m cap b a₂ w
+          by-close : after commaSign (tokensFrom s e₂) ≡ missing → (x : Next) → x ≡ nextOfClass closeBracket (tokenAt s e₂) → w ≡ End (closedBy x (placeOf (tokenAt s e₂)) n₂ m₂) → Arguments s d at j n m cap b a₂ w
           by-close c (To y) q g =
               let u = test-on s e₂ closeSign q refl in
               let lt : n₂ < cap = omega (arith, l .room, r .room, u .bounds) in
@@ -163,6 +163,6 @@ module _ (s : List ℕ) (d at : ℕ) (j : Join) where
               }
           by-close c Off q g = one-refused la g (list-unclosed s d at j l r c (test-off s e₂ closeSign q (omega arith) (omega arith) refl) (first-place s e₂ refl))
 
-          by-comma : (x : Next) → x ≡ behind comma (tokenAt s e₂) → w ≡ argumentBy x (groupEnd s e₂ n₂ m₂) n₂ m₂ → Arguments s d at j n m cap b a₂ w
+          by-comma : (x : Next) → x ≡ nextOfClass comma (tokenAt s e₂) → w ≡ argumentBy x (groupEnd s e₂ n₂ m₂) n₂ m₂ → Arguments s d at j n m cap b a₂ w
           by-comma (To y) q g = let u = test-on s e₂ commaSign q refl in one-next la g (list-turn s d at j l r (u .sign) (u .bounds) la)
-          by-comma Off q g = by-close (test-off s e₂ commaSign q (omega arith) (omega arith) refl) (behind closeBracket (tokenAt s e₂)) refl g
+          by-comma Off q g = by-close (test-off s e₂ commaSign q (omega arith) (omega arith) refl) (nextOfClass closeBracket (tokenAt s e₂)) refl g

@@ -10,15 +10,15 @@ use Rattle.classes.specs.Class.{faults, openBracket, ampersand, bar}
 use Rattle.tokens.specs.declared.Next.{Next}
 use Rattle.tokens.specs.declared.Next.the-variants.{Off, To}
 use Rattle.tokens.specs.Token.{tokenAt, tokensFrom}
-use Rattle.tokens.specs.Inner.Bounds.{behind}
+use Rattle.tokens.specs.Inner.Bounds.{nextOfClass}
 use Rattle.rules.specs.Rule.{Join}
 use Rattle.image.specs.Encode.{joinKind}
-use Rattle.grammar.specs.Grammar.{Got, missing, after}
+use Rattle.grammar.specs.Grammar.{ParseResult, missing, after}
 use Rattle.grammar.specs.Inner.Heads.{left}
 use Rattle.grammar.proofs.Laws.TokenListLaws.{Signed}
 use Rattle.grammar.proofs.Laws.BehindLaws.{test-on, test-off}
-use Rattle.nodes.specs.declared.Reach.{Reach}
-use Rattle.nodes.specs.declared.Reach.the-variants.{Done, Refused}
+use Rattle.nodes.specs.declared.ParseEnd.{ParseEnd}
+use Rattle.nodes.specs.declared.ParseEnd.the-variants.{Done, Refused}
 use Rattle.nodes.specs.Inner.Parses.{Arrays, Before, Read, Parsed, JoinRoom, Joined, keepIf}
 use Rattle.nodes.proofs.Laws.ArrayLaws.{front, still, long-after}
 use Rattle.nodes.proofs.Laws.ParseLaws.{gave-done, gave-refused, rebase, Level, Sofar, first-refused, begin, stop, right-refused, turn}
@@ -59,9 +59,9 @@ pub record Follows (s : List ℕ) (e sign : ℕ) (tags : List ℕ) (n kind y k :
 
 module _ (s : List ℕ) (e sign : ℕ) (tags : List ℕ) (n kind : ℕ) {r : Operand} (q : r ≡ nextOperand s e sign tags n kind) where
   follows : 0 < n → {y k : ℕ} → r ≡ At y k → Follows s e sign tags n kind y k
-  follows pos {y} {k} h = go (behind sign (tokenAt s e)) refl (sym h ∙ q)
+  follows pos {y} {k} h = go (nextOfClass sign (tokenAt s e)) refl (sym h ∙ q)
     where
-      go : (v : Next) → v ≡ behind sign (tokenAt s e) → At y k ≡ operandBy v (keepIf (eqb (getD tags (n - 1) 0 % 256) kind) n) → Follows s e sign tags n kind y k
+      go : (v : Next) → v ≡ nextOfClass sign (tokenAt s e) → At y k ≡ operandBy v (keepIf (eqb (getD tags (n - 1) 0 % 256) kind) n) → Follows s e sign tags n kind y k
       go (To z) p g =
           let same : z ≡ y = cc in
           let keep : k ≡ keepIf (eqb (getD tags (n - 1) 0 % 256) kind) n = cc in
@@ -72,21 +72,21 @@ module _ (s : List ℕ) (e sign : ℕ) (tags : List ℕ) (n kind : ℕ) {r : Ope
       go Off p g = let z : _≡_ {A = ℕ} 0 1 = cc in absurd (omega arith)
 
   follows-not : openBracket ≤ sign → sign ≤ bar → r ≡ None → after sign (tokensFrom s e) ≡ missing
-  follows-not lo hi h = go (behind sign (tokenAt s e)) refl (sym h ∙ q)
+  follows-not lo hi h = go (nextOfClass sign (tokenAt s e)) refl (sym h ∙ q)
     where
-      go : (v : Next) → v ≡ behind sign (tokenAt s e) → None ≡ operandBy v (keepIf (eqb (getD tags (n - 1) 0 % 256) kind) n) → after sign (tokensFrom s e) ≡ missing
+      go : (v : Next) → v ≡ nextOfClass sign (tokenAt s e) → None ≡ operandBy v (keepIf (eqb (getD tags (n - 1) 0 % 256) kind) n) → after sign (tokensFrom s e) ≡ missing
       go (To z) p g = let z : _≡_ {A = ℕ} 0 1 = cc in absurd (omega arith)
       go Off p g = test-off s e sign p lo hi refl
 
 -- ---- the loop
 -- what it keeps: room as before the first call, and what was read so far
-pub record Chaining (G : ℕ → Got) (More : ℕ → Got → Got) (need : ℕ) (class s : List ℕ) (at d n m : ℕ) (b a : Arrays) (e n₁ m₁ : ℕ) : Type 0 where
+pub record Chaining (G : ℕ → ParseResult) (More : ℕ → ParseResult → ParseResult) (need : ℕ) (class s : List ℕ) (at d n m : ℕ) (b a : Arrays) (e n₁ m₁ : ℕ) : Type 0 where
   pub before : Before class s at d n m b
   pub sofar : Sofar G More need s at n m (length (b .tags)) b a e n₁ m₁
 
-module _ {class s : List ℕ} {G : ℕ → Got} {More : ℕ → Got → Got} {Op : ℕ → ℕ → Got} {sign : ℕ} {j : Join} {at d n m need need′ : ℕ} {b : Arrays} (L : Level s G More Op sign j at) (p : Before class s at d n m b) (enough : (3 * left s at + 1 ≤ need) × (need + 1 ≤ need′)) where
+module _ {class s : List ℕ} {G : ℕ → ParseResult} {More : ℕ → ParseResult → ParseResult} {Op : ℕ → ℕ → ParseResult} {sign : ℕ} {j : Join} {at d n m need need′ : ℕ} {b : Arrays} (L : Level s G More Op sign j at) (p : Before class s at d n m b) (enough : (3 * left s at + 1 ≤ need) × (need + 1 ≤ need′)) where
   -- after the first operand
-  module _ {b₁ : Arrays} {r : Reach} (q : Parsed (λ (f : ℕ). Op f at) need s at n m b b₁ r) where
+  module _ {b₁ : Arrays} {r : ParseEnd} (q : Parsed (λ (f : ℕ). Op f at) need s at n m b b₁ r) where
     pub chain-refused : {x : _} → r ≡ Refused x → Parsed G need′ s at n m b b₁ r
     chain-refused h = gave-refused h (first-refused L (omega arith) (q .refused _ h))
 
@@ -97,13 +97,13 @@ module _ {class s : List ℕ} {G : ℕ → Got} {More : ℕ → Got → Got} {Op
         sofar = begin L (omega (arith, p)) (p .long) (before-after p same .long) enough (q .done _ _ _ h);
       }
 
-      pub chain-stop : {a : Arrays} {e₂ n₂ m₂ : ℕ} {v : Reach} → Chaining G More need′ class s at d n m b₁ a e₂ n₂ m₂ → (openBracket ≤ sign) × (sign ≤ bar) → {u : Operand} → u ≡ nextOperand s e₂ sign (a .tags) n₂ (joinKind j) → u ≡ None → v ≡ Done e₂ n₂ m₂ → Parsed G need′ s at n m b a v
+      pub chain-stop : {a : Arrays} {e₂ n₂ m₂ : ℕ} {v : ParseEnd} → Chaining G More need′ class s at d n m b₁ a e₂ n₂ m₂ → (openBracket ≤ sign) × (sign ≤ bar) → {u : Operand} → u ≡ nextOperand s e₂ sign (a .tags) n₂ (joinKind j) → u ≡ None → v ≡ Done e₂ n₂ m₂ → Parsed G need′ s at n m b a v
       chain-stop {a} {e₂} {n₂} c lies o none is =
           let fits : (n ≤ length (b .tags)) × (n ≤ length (b .args)) × (m ≤ length (b .names)) = omega (arith, p) in
           gave-done is (rebase (front (q .done _ _ _ h .holds) (fits .0) (fits .1) (fits .2)) (stop L (follows-not s e₂ sign (a .tags) n₂ (joinKind j) o (lies .0) (lies .1) none) (c .sofar)))
 
 -- a turn: what its calls ask, and what it gives
-module _ {class s : List ℕ} {G : ℕ → Got} {More : ℕ → Got → Got} {at d n m need : ℕ} {b a : Arrays} {e n₁ m₁ : ℕ} (c : Chaining G More need class s at d n m b a e n₁ m₁) where
+module _ {class s : List ℕ} {G : ℕ → ParseResult} {More : ℕ → ParseResult → ParseResult} {at d n m need : ℕ} {b a : Arrays} {e n₁ m₁ : ℕ} (c : Chaining G More need class s at d n m b a e n₁ m₁) where
   pub operand-asks : {sign : ℕ} → (ampersand ≤ sign) × (sign ≤ bar) → (faults class ≡ 0) × ((ampersand ≤ sign) × ((sign ≤ bar) × ((0 < n₁) × (n₁ ≤ length (a .tags)))))
   operand-asks h = let p = c .before in let l = c .sofar in (p .table, (h .0, (h .1, (omega (arith, l .some), omega (arith, p .roomy, l .room, l .within, l .long .tags)))))
 
@@ -127,7 +127,7 @@ module _ {class s : List ℕ} {G : ℕ → Got} {More : ℕ → Got → Got} {at
         }
 
     -- the operand was read
-    module _ {Op : ℕ → Got} {need₂ : ℕ} {a₂ : Arrays} {e₂ n₂ m₂ : ℕ} (r : Read Op need₂ s y k m₁ a a₂ e₂ n₂ m₂) (same : Lengths a₂ a) where
+    module _ {Op : ℕ → ParseResult} {need₂ : ℕ} {a₂ : Arrays} {e₂ n₂ m₂ : ℕ} (r : Read Op need₂ s y k m₁ a a₂ e₂ n₂ m₂) (same : Lengths a₂ a) where
       pub right-room : JoinRoom n n₂ (a₂ .tags) (a₂ .args)
       right-room =
           let p = c .before in
@@ -144,7 +144,7 @@ module _ {class s : List ℕ} {G : ℕ → Got} {More : ℕ → Got → Got} {at
       pub right-fewer : left s e₂ < left s e
       right-fewer = omega (arith, r .fewer, f .signed .bounds)
 
-module _ {class s : List ℕ} {G : ℕ → Got} {More : ℕ → Got → Got} {Op : ℕ → ℕ → Got} {sign : ℕ} {j : Join} {at d n m need : ℕ} {b a : Arrays} {e n₁ m₁ : ℕ} (L : Level s G More Op sign j at) (c : Chaining G More need class s at d n m b a e n₁ m₁) {y k : ℕ} (f : Follows s e sign (a .tags) n₁ (joinKind j) y k) {need₂ : ℕ} (enough : need₂ ≤ 3 * left s y + 2) {a₂ : Arrays} {r : Reach} (q : Parsed (λ (i : ℕ). Op i y) need₂ s y k m₁ a a₂ r) where
+module _ {class s : List ℕ} {G : ℕ → ParseResult} {More : ℕ → ParseResult → ParseResult} {Op : ℕ → ℕ → ParseResult} {sign : ℕ} {j : Join} {at d n m need : ℕ} {b a : Arrays} {e n₁ m₁ : ℕ} (L : Level s G More Op sign j at) (c : Chaining G More need class s at d n m b a e n₁ m₁) {y k : ℕ} (f : Follows s e sign (a .tags) n₁ (joinKind j) y k) {need₂ : ℕ} (enough : need₂ ≤ 3 * left s y + 2) {a₂ : Arrays} {r : ParseEnd} (q : Parsed (λ (i : ℕ). Op i y) need₂ s y k m₁ a a₂ r) where
   pub right-fails : {b₀ a₀ : Arrays} {x : _} → r ≡ Refused x → Parsed G need s at n m b₀ a₀ r
   right-fails h = gave-refused h (right-refused L (f .signed .sign) (f .signed .bounds .2) (c .sofar) enough (q .refused _ h))
 

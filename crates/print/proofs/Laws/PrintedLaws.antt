@@ -6,14 +6,14 @@ use Prim.Native.Nat.{ℕ, _≤_, _<_}
 use native.Mathlib.Omega.{arith}
 use borrow.Author.Tests.{lt-ltb, le-ltb}
 use lib.ListN.{length, drop}
-use Rattle.slices.specs.Written.{Put}
+use Rattle.slices.specs.Written.{WrittenAt}
 use Rattle.slices.proofs.Laws.WrittenLaws.{written-front}
 use Rattle.refusals.specs.Refusals.{refusal, shortBuffer, badImage}
 use Rattle.rules.specs.Rule.{Rule, size}
 use Rattle.image.specs.Layout.{nodeCountIn}
 use Rattle.image.specs.Decode.{isSome, cellAt, decode}
 use Rattle.image.proofs.Laws.FitLaws.{isSome-true, isSome-false}
-use Rattle.image.specs.Inner.Standing.{Stands}
+use Rattle.image.specs.Inner.Standing.{EncodedAt}
 use Rattle.image.proofs.Laws.InsideLaws.{decode-whole}
 use Rattle.print_text.specs.Print.{textOf}
 use Rattle.print.specs.Printed.{outcome, printInto}
@@ -26,7 +26,7 @@ module _ (i t : List ℕ) where
   refused-16 e = rw (isSome-false (decode i) e)
 
   -- k is the length of the text of whatever rule has all n nodes
-  module _ (image : isSome (decode i) ≡ true) {n k : ℕ} (p : n ≡ nodeCountIn i) (long : (r : Rule) → size r ≡ n → Stands r (cellAt i n) 0 → k ≡ length (textOf r)) where
+  module _ (image : isSome (decode i) ≡ true) {n k : ℕ} (p : n ≡ nodeCountIn i) (long : (r : Rule) → size r ≡ n → EncodedAt r (cellAt i n) 0 → k ≡ length (textOf r)) where
     pub refused-1 : length t < k → outcome (Refused (refusal shortBuffer 0)) t ≡ printInto i t
     unfolding printInto
     refused-1 short =
@@ -36,7 +36,7 @@ module _ (i t : List ℕ) where
         rw (e, lt-ltb (length t) (length (textOf r)) (omega arith))
 
     -- and the text was put into the buffer so that it ends at k
-    pub printed : {t′ : List ℕ} {start : ℕ} → k ≤ length t → ((r : Rule) → size r ≡ n → Stands r (cellAt i n) 0 → Put t t′ start k (textOf r)) → outcome (Printed k) t′ ≡ printInto i t
+    pub printed : {t′ : List ℕ} {start : ℕ} → k ≤ length t → ((r : Rule) → size r ≡ n → EncodedAt r (cellAt i n) 0 → WrittenAt t t′ start k (textOf r)) → outcome (Printed k) t′ ≡ printInto i t
     unfolding printInto
     printed {t′} {start} room puts =
         let (r, e) = isSome-true (decode i) image in

@@ -1,4 +1,4 @@
--- `print_pieces::put_back` meets its contract: the bracket stands before what is put first. Assumes nothing.
+-- `print_pieces::put_back` meets its contract: the bracket stands before what is prepend first. Assumes nothing.
 use mathlib.Core.Path.{sym, _∙_}
 use native.Mathlib.Omega.{arith}
 use borrow.Author.Needs.{needs}
@@ -13,9 +13,9 @@ put-behind-requires : tie.Need-put-behind-requires
 unfolding backOf bracket
 put-behind-requires c κs = (omega (arith, simp length-append at (c .before .before .pre .0)), search needs)
 
-put-requires : tie.Need-put-requires
+prepend-requires : tie.Need-prepend-requires
 unfolding backOf bracket
-put-requires c κs =
+prepend-requires c κs =
     let i = c .before .before in
     let s = i .before .before .before .before .before .before .before in
     (omega (arith, simp length-append at (rw (sym (i .before .is-bracketed .ensures) ∙ i .if1 .taken) at (s .pre .0))), omega arith)
@@ -26,7 +26,7 @@ returns c =
     let i = c .before .before .before .before .before in
     let s = i .before .before .before .before .before .before .before in
     rw (sym (i .before .is-bracketed .ensures) ∙ i .if1 .taken)
-    (put-before (s .pre .1) (i .before .before .before .before .put-behind .ensures) (c .before .before .put .ensures))
+    (put-before (s .pre .1) (i .before .before .before .before .put-behind .ensures) (c .before .before .prepend .ensures))
 
 returns-2 : tie.Need-returns-2
 unfolding backOf bracket
@@ -38,8 +38,8 @@ put-back-spec =
     (tie.spec
     put-behind-requires
     (λ c κs. search needs)  -- is-bracketed-requires
-    (λ c. search needs)  -- slice-aggregate-put
-    put-requires
+    (λ c. search needs)  -- slice-aggregate-prepend
+    prepend-requires
     (λ c. search needs)  -- same-length
     returns
     (λ c. search needs)  -- same-length-2

@@ -1,4 +1,4 @@
--- `print_pieces::put_behind` meets its contract: each kind has its own line, and the others put nothing. Assumes nothing.
+-- `print_pieces::put_behind` meets its contract: each kind has its own line, and the others prepend nothing. Assumes nothing.
 use native.Mathlib.Omega.{arith}
 use borrow.Author.Needs.{needs}
 use Rattle.print_text.specs.Print.{behind}
@@ -8,27 +8,27 @@ use Rattle.print_text.proofs.Laws.PiecesLaws.{none-behind}
 use Rattle.print_pieces.proofs.put_behind.Statement.{statement}
 use Rattle.print_pieces.proofs.put_behind.Tie as tie
 
-put-requires : tie.Need-put-requires
+prepend-requires : tie.Need-prepend-requires
 unfolding behindOf behind
-put-requires c κs =
+prepend-requires c κs =
     let m = c .before .before in
     (rw (m .before .if1 .taken, m .match .keys1) at (m .before .before .before .pre .0), search needs)
 
-put-requires-2 : tie.Need-put-requires-2
+prepend-requires-2 : tie.Need-prepend-requires-2
 unfolding behindOf behind
-put-requires-2 c κs =
+prepend-requires-2 c κs =
     let m = c .before .before in
     (rw (m .before .if1 .left, m .match2 .keys1) at (m .before .before .before .pre .0), search needs)
 
-put-requires-3 : tie.Need-put-requires-3
+prepend-requires-3 : tie.Need-prepend-requires-3
 unfolding behindOf behind
-put-requires-3 c κs =
+prepend-requires-3 c κs =
     let m = c .before .before in
     (rw (m .before .if1 .left, m .match2 .keys2) at (m .before .before .before .pre .0), search needs)
 
-put-requires-4 : tie.Need-put-requires-4
+prepend-requires-4 : tie.Need-prepend-requires-4
 unfolding behindOf behind
-put-requires-4 c κs =
+prepend-requires-4 c κs =
     let m = c .before .before in
     (rw (m .before .if1 .left, m .match2 .keys3) at (m .before .before .before .pre .0), search needs)
 
@@ -36,7 +36,7 @@ returns : tie.Need-returns
 unfolding behindOf behind
 returns c =
     let m = c .before .before .before .before .before in
-    rw (m .before .if1 .taken, m .match .keys1) (c .before .before .put .ensures)
+    rw (m .before .if1 .taken, m .match .keys1) (c .before .before .prepend .ensures)
 
 returns-2 : tie.Need-returns-2
 returns-2 c = rw (none-behind (c .before .before .before .args .kind) (λ e. omega arith) (λ h k. c .before .if1 .taken)) (put-none _ _)
@@ -45,19 +45,19 @@ returns-3 : tie.Need-returns-3
 unfolding behindOf behind
 returns-3 c =
     let m = c .before .before .before .before .before in
-    rw (m .before .if1 .left, m .match2 .keys1) (c .before .before .put2 .ensures)
+    rw (m .before .if1 .left, m .match2 .keys1) (c .before .before .prepend2 .ensures)
 
 returns-4 : tie.Need-returns-4
 unfolding behindOf behind
 returns-4 c =
     let m = c .before .before .before .before .before in
-    rw (m .before .if1 .left, m .match2 .keys2) (c .before .before .put3 .ensures)
+    rw (m .before .if1 .left, m .match2 .keys2) (c .before .before .prepend3 .ensures)
 
 returns-5 : tie.Need-returns-5
 unfolding behindOf behind
 returns-5 c =
     let m = c .before .before .before .before .before in
-    rw (m .before .if1 .left, m .match2 .keys3) (c .before .before .put4 .ensures)
+    rw (m .before .if1 .left, m .match2 .keys3) (c .before .before .prepend4 .ensures)
 
 returns-6 : tie.Need-returns-6
 returns-6 c = rw (none-behind (c .before .before .before .args .kind) {last = c .before .before .before .args .last} (λ e. omega arith) (λ h k. absurd (omega arith))) (put-none _ _)
@@ -66,14 +66,14 @@ pub put-behind-spec : {M : Type 1} → statement M
 put-behind-spec =
     tie.close
     (tie.spec
-    (λ c. search needs)  -- slice-aggregate-put
-    put-requires
-    (λ c. search needs)  -- slice-aggregate-put-2
-    put-requires-2
-    (λ c. search needs)  -- slice-aggregate-put-3
-    put-requires-3
-    (λ c. search needs)  -- slice-aggregate-put-4
-    put-requires-4
+    (λ c. search needs)  -- slice-aggregate-prepend
+    prepend-requires
+    (λ c. search needs)  -- slice-aggregate-prepend-2
+    prepend-requires-2
+    (λ c. search needs)  -- slice-aggregate-prepend-3
+    prepend-requires-3
+    (λ c. search needs)  -- slice-aggregate-prepend-4
+    prepend-requires-4
     (λ c. search needs)  -- same-length
     returns
     returns-2

@@ -10,12 +10,12 @@ use Rattle.print_pieces.proofs.put_front.Tie as tie
 is-bracketed-requires : tie.Need-is-bracketed-requires
 is-bracketed-requires c κs = search needs
 
-slice-aggregate-put : tie.Need-slice-aggregate-put
-slice-aggregate-put c = search needs
+slice-aggregate-prepend : tie.Need-slice-aggregate-prepend
+slice-aggregate-prepend c = search needs
 
-put-requires : tie.Need-put-requires
+prepend-requires : tie.Need-prepend-requires
 unfolding frontOf bracket
-put-requires c κs =
+prepend-requires c κs =
     let i = c .before .before in
     (rw (sym (i .before .is-bracketed .ensures) ∙ i .if1 .taken) at (i .before .before .before .pre .0), search needs)
 
@@ -26,11 +26,11 @@ returns : tie.Need-returns
 unfolding frontOf bracket
 returns c =
     let i = c .before .before .before .before .before in
-    rw (sym (i .before .is-bracketed .ensures) ∙ i .if1 .taken) (c .before .before .put .ensures)
+    rw (sym (i .before .is-bracketed .ensures) ∙ i .if1 .taken) (c .before .before .prepend .ensures)
 
 returns-2 : tie.Need-returns-2
 unfolding frontOf bracket
 returns-2 c = rw (sym (c .before .is-bracketed .ensures) ∙ c .if1 .left) (put-none _ _)
 
 pub put-front-spec : {M : Type 1} → statement M
-put-front-spec = tie.close (tie.spec is-bracketed-requires slice-aggregate-put put-requires same-length returns returns-2)
+put-front-spec = tie.close (tie.spec is-bracketed-requires slice-aggregate-prepend prepend-requires same-length returns returns-2)

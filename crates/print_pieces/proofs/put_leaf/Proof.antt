@@ -1,4 +1,4 @@
--- `print_pieces::put_leaf` meets its contract: each kind has its own pieces, each put before the one put before it. Assumes nothing.
+-- `print_pieces::put_leaf` meets its contract: each kind has its own pieces, each prepend before the one prepend before it. Assumes nothing.
 use native.Mathlib.Omega.{arith}
 use borrow.Author.Needs.{needs}
 use lib.ListN.{length-append}
@@ -14,15 +14,15 @@ use Rattle.print_pieces.proofs.put_leaf.Tie as tie
 name-of-requires : tie.Need-name-of-requires
 name-of-requires c κs = c .before .before .before .before .pre .0 (c .before .match .keys1)
 
-put-requires : tie.Need-put-requires
+prepend-requires : tie.Need-prepend-requires
 unfolding leafTextOf leafText meaning
-put-requires c κs =
+prepend-requires c κs =
     let m = c .before .before in
     (rw (c .name-of .ensures) (rw (m .match .keys1) at (m .before .before .before .pre .1)), search needs)
 
-put-requires-2 : tie.Need-put-requires-2
+prepend-requires-2 : tie.Need-prepend-requires-2
 unfolding leafTextOf leafText meaning
-put-requires-2 c κs =
+prepend-requires-2 c κs =
     let m = c .before .before in
     (omega (arith, simp length-append at (rw (m .match .keys2) at (m .before .before .before .pre .1))), search needs)
 
@@ -32,15 +32,15 @@ format-duration-requires c κs =
     let m = c .before .before .before .before .before .before in
     (omega (arith, simp length-append at (rw (m .match .keys2) at (m .before .before .before .pre .1))), omega arith)
 
-put-requires-3 : tie.Need-put-requires-3
+prepend-requires-3 : tie.Need-prepend-requires-3
 unfolding leafTextOf leafText meaning
-put-requires-3 c κs =
+prepend-requires-3 c κs =
     let m = c .before .before .before .before .before .before .before .before .before .before .before in
     (omega (arith, simp length-append at (rw (m .match .keys2) at (m .before .before .before .pre .1))), omega arith)
 
-put-requires-4 : tie.Need-put-requires-4
+prepend-requires-4 : tie.Need-prepend-requires-4
 unfolding leafTextOf leafText meaning
-put-requires-4 c κs =
+prepend-requires-4 c κs =
     let m = c .before .before in
     (omega (arith, simp length-append at (rw (m .match .keys3) at (m .before .before .before .pre .1))), search needs)
 
@@ -50,9 +50,9 @@ put-digits-requires c κs =
     let m = c .before .before .before .before .before .before in
     (omega (arith, simp length-append at (rw (m .match .keys3) at (m .before .before .before .pre .1))), omega arith)
 
-put-requires-5 : tie.Need-put-requires-5
+prepend-requires-5 : tie.Need-prepend-requires-5
 unfolding leafTextOf leafText meaning
-put-requires-5 c κs =
+prepend-requires-5 c κs =
     let m = c .before .before .before .before .before .before .before .before .before .before .before in
     (omega (arith, simp length-append at (rw (m .match .keys3) at (m .before .before .before .pre .1))), omega arith)
 
@@ -60,7 +60,7 @@ returns : tie.Need-returns
 unfolding leafTextOf leafText meaning
 returns c =
     let m = c .before .before .before .before .before in
-    rw (m .match .keys1) (rw (c .before .before .before .name-of .ensures) at (c .before .before .put .ensures))
+    rw (m .match .keys1) (rw (c .before .before .before .name-of .ensures) at (c .before .before .prepend .ensures))
 
 returns-2 : tie.Need-returns-2
 unfolding leafTextOf leafText meaning
@@ -69,7 +69,7 @@ returns-2 c =
     let p = d .before .before .before .before in
     let m = p .before .before .before in
     let l = m .before .before .before .pre .2 in
-    rw (m .match .keys2) (put-before l (put-before l (p .put2 .ensures) (d .format-duration .ensures)) (c .before .before .put3 .ensures))
+    rw (m .match .keys2) (put-before l (put-before l (p .prepend2 .ensures) (d .format-duration .ensures)) (c .before .before .prepend3 .ensures))
 
 returns-3 : tie.Need-returns-3
 unfolding leafTextOf leafText meaning
@@ -78,7 +78,7 @@ returns-3 c =
     let p = d .before .before .before .before in
     let m = p .before .before .before in
     let l = m .before .before .before .pre .2 in
-    rw (m .match .keys3) (put-before l (put-before l (p .put4 .ensures) (d .put-digits .ensures)) (c .before .before .put5 .ensures))
+    rw (m .match .keys3) (put-before l (put-before l (p .prepend4 .ensures) (d .put-digits .ensures)) (c .before .before .prepend5 .ensures))
 
 returns-4 : tie.Need-returns-4
 returns-4 c =
@@ -90,17 +90,17 @@ put-leaf-spec =
     tie.close
     (tie.spec
     name-of-requires
-    put-requires
-    (λ c. search needs)  -- slice-aggregate-put
-    put-requires-2
+    prepend-requires
+    (λ c. search needs)  -- slice-aggregate-prepend
+    prepend-requires-2
     format-duration-requires
-    (λ c. search needs)  -- slice-aggregate-put-2
-    put-requires-3
-    (λ c. search needs)  -- slice-aggregate-put-3
-    put-requires-4
+    (λ c. search needs)  -- slice-aggregate-prepend-2
+    prepend-requires-3
+    (λ c. search needs)  -- slice-aggregate-prepend-3
+    prepend-requires-4
     put-digits-requires
-    (λ c. search needs)  -- slice-aggregate-put-4
-    put-requires-5
+    (λ c. search needs)  -- slice-aggregate-prepend-4
+    prepend-requires-5
     (λ c. search needs)  -- same-length
     returns
     (λ c. search needs)  -- same-length-2

@@ -1,4 +1,4 @@
--- `print_pieces::put_opening` meets its contract: three pieces, each before the one put before it. Assumes nothing.
+-- `print_pieces::put_opening` meets its contract: three pieces, each before the one prepend before it. Assumes nothing.
 use native.Mathlib.Omega.{arith}
 use borrow.Author.Needs.{needs}
 use lib.ListN.{length-append}
@@ -9,9 +9,9 @@ use Rattle.print_text.proofs.Laws.PiecesLaws.{no-opening}
 use Rattle.print_pieces.proofs.put_opening.Statement.{statement}
 use Rattle.print_pieces.proofs.put_opening.Tie as tie
 
-put-requires : tie.Need-put-requires
+prepend-requires : tie.Need-prepend-requires
 unfolding openingOf opening
-put-requires c κs =
+prepend-requires c κs =
     let m = c .before .before in
     (omega (arith, simp length-append at (rw (m .match .keys1) at (m .before .before .pre .0))), search needs)
 
@@ -21,9 +21,9 @@ put-digits-requires c κs =
     let m = c .before .before .before .before .before .before in
     (omega (arith, simp length-append at (rw (m .match .keys1) at (m .before .before .pre .0))), omega arith)
 
-put-requires-2 : tie.Need-put-requires-2
+prepend-requires-2 : tie.Need-prepend-requires-2
 unfolding openingOf opening
-put-requires-2 c κs =
+prepend-requires-2 c κs =
     let m = c .before .before .before .before .before .before .before .before .before .before .before in
     (omega (arith, simp length-append at (rw (m .match .keys1) at (m .before .before .pre .0))), omega arith)
 
@@ -33,7 +33,7 @@ returns c =
     let d = c .before .before .before .before .before .before .before in
     let p = d .before .before .before .before in
     let m = p .before .before .before in
-    rw (m .match .keys1) (put-before (m .before .before .pre .1) (put-before (m .before .before .pre .1) (p .put .ensures) (d .put-digits .ensures)) (c .before .before .put2 .ensures))
+    rw (m .match .keys1) (put-before (m .before .before .pre .1) (put-before (m .before .before .pre .1) (p .prepend .ensures) (d .put-digits .ensures)) (c .before .before .prepend2 .ensures))
 
 returns-2 : tie.Need-returns-2
 returns-2 c = rw (no-opening (c .before .before .args .kind) _ (λ e. omega arith)) (put-none _ _)
@@ -42,11 +42,11 @@ pub put-opening-spec : {M : Type 1} → statement M
 put-opening-spec =
     tie.close
     (tie.spec
-    (λ c. search needs)  -- slice-aggregate-put
-    put-requires
+    (λ c. search needs)  -- slice-aggregate-prepend
+    prepend-requires
     put-digits-requires
-    (λ c. search needs)  -- slice-aggregate-put-2
-    put-requires-2
+    (λ c. search needs)  -- slice-aggregate-prepend-2
+    prepend-requires-2
     (λ c. search needs)  -- same-length
     returns
     returns-2)

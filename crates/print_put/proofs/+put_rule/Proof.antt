@@ -10,11 +10,11 @@ use borrow.Fn.Kinds.{In}
 use borrow.Fn.PlainCycle.{Measures, is, falls, and}
 use Rattle.rules.specs.Rule.{Rule, size}
 use Rattle.image.specs.Decode.{cellAt}
-use Rattle.image.specs.Inner.Standing.{Stands}
+use Rattle.image.specs.Inner.Standing.{EncodedAt}
 use Rattle.image.specs.Inner.Valid.{nodeOf}
 use Rattle.image.proofs.Laws.EncodeLaws.{size-pos}
 use Rattle.image.proofs.Laws.CellLaws.{name-inside}
-use Rattle.slices.specs.Written.{Put}
+use Rattle.slices.specs.Written.{WrittenAt}
 use Rattle.slices.proofs.Laws.WrittenLaws.{put-none, put-before, put-length}
 use Rattle.print_text.specs.Print.{textOf}
 use Rattle.print_text.proofs.Laws.ChildrenLaws.{Walks, walks-start, Turn, turn, walks-next, walks-done, leaf-text}
@@ -47,7 +47,7 @@ given t = (node-at-reads.Asked, node-at-reads.Learnt, is-leaf-reads.Asked, is-le
 
 abbrev put-rule-Inv-loop : put-rule-lts.InvT-loop
 put-rule-Inv-loop image n from size text₀ end at kind arg stop₀ to₀ text stop to =
-    (stop ≤ from + size - 1) × Walks image n kind arg from size stop (λ t. Put text₀ text to end t)
+    (stop ≤ from + size - 1) × Walks image n kind arg from size stop (λ t. WrittenAt text₀ text to end t)
 
 abbrev put-rule-μ-loop : put-rule-lts.MeasureT-loop
 put-rule-μ-loop image n from size text₀ end at kind arg stop₀ to₀ text stop to = stop
@@ -107,7 +107,7 @@ the-turn : (t : ℕ) (c : put-rule-lts.After-node-at2 (given t) (put-rule-at t) 
     let s = c .before .before .before .before .before .before .before .before in
     let d = c .before .before .before .before .before .node-at .result in
     let i = c .before .before .loop in
-    Turn (s .args .image .now) (s .args .n) (d .kind) (d .arg) (s .args .from) (s .args .size) (i .stop) (λ t. Put (s .args .text .now) (i .text) (i .to) (s .args .end) t) (s .pre .1 .0 .here .rule) (nodeOf (c .node-at2 .result))
+    Turn (s .args .image .now) (s .args .n) (d .kind) (d .arg) (s .args .from) (s .args .size) (i .stop) (λ t. WrittenAt (s .args .text .now) (i .text) (i .to) (s .args .end) t) (s .pre .1 .0 .here .rule) (nodeOf (c .node-at2 .result))
 the-turn t c =
     let h = c .before .before .before .before .before .before .before .before .pre .1 .0 .here in
     let i = c .before .before .loop .inv in
@@ -127,7 +127,7 @@ the-place : (t : ℕ) (c : put-rule-lts.After-is-leaf2 (given t) (put-rule-at t)
     let s = c .before .before .before .before .before .before .before .before .before .before .before .before .before .args in
     let d = c .before .before .before .before .before .node-at2 .result in
     let p = c .before .before .before .put-back in
-    ((q : Rule) → size q ≡ d .size → Stands q (cellAt (s .image .now) (s .n)) (c .before .before .before .before .before .before .before .loop .stop - d .size) → length (textOf q) ≤ p .result) × (p .result ≤ length (p .last .1 .1 .1 .0))
+    ((q : Rule) → size q ≡ d .size → EncodedAt q (cellAt (s .image .now) (s .n)) (c .before .before .before .before .before .before .before .loop .stop - d .size) → length (textOf q) ≤ p .result) × (p .result ≤ length (p .last .1 .1 .1 .0))
 the-place t c =
     let s = c .before .before .before .before .before .before .before .before .before .before .before .before .before in
     let u = the-turn t (c .before .before .before .before .before) in
@@ -170,7 +170,7 @@ the-text : (t : ℕ) (c : put-rule-lts.Joined2 (given t) (put-rule-at t) put-rul
     let s = c .before .before .before .before .before .before .before .before .before .before .before .before .before .before .args in
     let d = c .before .before .before .before .before .before .node-at2 .result in
     let p = c .before .before .before .before .put-back in
-    (q : Rule) → size q ≡ d .size → Stands q (cellAt (s .image .now) (s .n)) (c .before .before .before .before .before .before .before .before .loop .stop - d .size) → Put (p .last .1 .1 .1 .0) (c .if2 .text) (c .if2 .to) (p .result) (textOf q)
+    (q : Rule) → size q ≡ d .size → EncodedAt q (cellAt (s .image .now) (s .n)) (c .before .before .before .before .before .before .before .before .loop .stop - d .size) → WrittenAt (p .last .1 .1 .1 .0) (c .if2 .text) (c .if2 .to) (p .result) (textOf q)
 the-text t c q e st =
     let u = the-turn t (c .before .before .before .before .before .before) in
     ⊎-elim (λ w. rw (w .5, w .6, ← leaf-text _ _ _ _ _ (c .before .before .before .before .before .before .node-at2 .ensures) (omega (arith, u .some, u .fits)) (sym (c .before .is-leaf2 .ensures) ∙ w .0 .taken) q e st) (w .2 .ensures)) (λ w. rw (w .5, w .6) (w .2 .ensures q e st)) (c .if2 .came)

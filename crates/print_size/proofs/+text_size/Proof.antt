@@ -9,7 +9,7 @@ use borrow.Fn.Kinds.{In}
 use borrow.Fn.PlainCycle.{Measures, is, falls, and}
 use Rattle.rules.specs.Rule.{Rule, size}
 use Rattle.image.specs.Decode.{cellAt}
-use Rattle.image.specs.Inner.Standing.{Stands}
+use Rattle.image.specs.Inner.Standing.{EncodedAt}
 use Rattle.image.specs.Inner.Valid.{nodeOf}
 use Rattle.image.proofs.Laws.EncodeLaws.{size-pos}
 use Rattle.image.proofs.Laws.CellLaws.{name-inside}
@@ -127,7 +127,7 @@ abbrev Counted : (t : ℕ) (c : text-size-lts.After-around-size (given t) (text-
 Counted t c r =
     let s = c .before .before .before .before .before .before .before .before .before .args in
     let d = c .before .node-at2 .result in
-    (q : Rule) → size q ≡ d .size → Stands q (cellAt (s .image .now) (s .n)) (c .before .before .before .loop .end - d .size) → r ≡ length (textOf q)
+    (q : Rule) → size q ≡ d .size → EncodedAt q (cellAt (s .image .now) (s .n)) (c .before .before .before .loop .end - d .size) → r ≡ length (textOf q)
 
 -- so they have room, and the walk goes on
 counted-room : (t : ℕ) (c : text-size-lts.After-around-size (given t) (text-size-at t) text-size.Post text-size-Inv-loop text-size-μ-loop) {r : ℕ} → Counted t c r → c .before .before .before .loop .total + c .around-size .result + r ≤ 134_348_800

@@ -13,7 +13,7 @@ use Rattle.image.specs.Encode.{joinKind}
 use Rattle.image.specs.Decode.{Node, nodeAt, meaning, cellAt}
 use Rattle.image.proofs.Laws.FitLaws.{cell-size}
 use Rattle.image.proofs.Laws.EncodeLaws.{size-pos}
-use Rattle.image.specs.Inner.Standing.{Stands, StandAll}
+use Rattle.image.specs.Inner.Standing.{EncodedAt, EncodedAllAt}
 use Rattle.image.proofs.Laws.StandingLaws.{root-size}
 use Rattle.image.proofs.Laws.KindLaws.{says, no-leaf, leaf-no-join}
 use Rattle.image.proofs.Laws.CellLaws.{cell-what}
@@ -38,29 +38,29 @@ module _ (s : List ℕ) (n : ℕ) where
   pub record Walk (kind arg from k end : ℕ) (ρ : Rule) (rest : Rules) (passed : List ℕ) : Type 0 where
     pub join : Join
     pub kinded : kind ≡ joinKind join
-    pub standing : StandAll rest (cellAt s n) from
+    pub standing : EncodedAllAt rest (cellAt s n) from
     pub ends : from + sizes rest ≡ end
     pub text : textOf ρ ≡ openingOf kind arg ++ (upTo rest join (eqb end (from + k - 1)) ++ passed)
 
   -- so for whatever rule has these nodes, and P holds of what was passed
   abbrev pub Walks : ℕ → ℕ → ℕ → ℕ → ℕ → (List ℕ → Type 0) → Type 0
   Walks kind arg from k end P =
-      (ρ : Rule) → size ρ ≡ k → Stands ρ (cellAt s n) from → (rest : Rules) × (passed : List ℕ) × Walk kind arg from k end ρ rest passed × P passed
+      (ρ : Rule) → size ρ ≡ k → EncodedAt ρ (cellAt s n) from → (rest : Rules) × (passed : List ℕ) × Walk kind arg from k end ρ rest passed × P passed
 
   -- ---- the last of k nodes from `from` on was read as d
   module _ (from k i : ℕ) {d : Node} (read : d ≡ nodeAt s n i) (last : from + k ≡ suc i) where
-    root : (ρ : Rule) → size ρ ≡ k → Stands ρ (cellAt s n) from → meaning s n (d .kind) (d .arg) ≡ rootOf ρ
+    root : (ρ : Rule) → size ρ ≡ k → EncodedAt ρ (cellAt s n) from → meaning s n (d .kind) (d .arg) ≡ rootOf ρ
     root ρ e st = cell-what s n i read ∙ root-what ρ (cellAt s n) from i (omega arith) st
 
     -- a leaf has no children
-    pub leaf-text : isLeaf (d .kind) ≡ true → (ρ : Rule) → size ρ ≡ k → Stands ρ (cellAt s n) from → leafIn s n (d .kind) (d .arg) ≡ textOf ρ
+    pub leaf-text : isLeaf (d .kind) ≡ true → (ρ : Rule) → size ρ ≡ k → EncodedAt ρ (cellAt s n) from → leafIn s n (d .kind) (d .arg) ≡ textOf ρ
     unfolding leafTextOf textOf
     leaf-text low (leaf l) e st = ap leafTextOf (root (leaf l) e st)
     leaf-text low (node j rs r) e st = absurd (leaf-no-join s n (d .kind) (d .arg) low j (root (node j rs r) e st))
 
     -- no child is passed yet
     pub walks-start : {P : List ℕ → Type 0} → isLeaf (d .kind) ≡ false → P [] → Walks (d .kind) (d .arg) from k i P
-    unfolding size Stands textOf upTo
+    unfolding size EncodedAt textOf upTo
     walks-start high p (leaf l) e st = absurd (no-leaf s n (d .kind) (d .arg) high l (root (leaf l) e st))
     walks-start high p (node j rs r) e st =
         let (x, y) = rw (root (node j rs r) e st) at (says s n (d .kind) (d .arg)) in
@@ -70,7 +70,7 @@ module _ (s : List ℕ) (n : ℕ) where
   pub record Turn (kind arg from k end : ℕ) (P : List ℕ → Type 0) (ρ : Rule) (d : Node) : Type 0 where
     pub child : Rule
     pub sized : size child ≡ d .size
-    pub stands : Stands child (cellAt s n) (end - d .size)
+    pub stands : EncodedAt child (cellAt s n) (end - d .size)
     pub some : 0 < d .size
     pub fits : d .size + from ≤ end
     pub passed : List ℕ
@@ -87,7 +87,7 @@ module _ (s : List ℕ) (n : ℕ) where
   module _ {kind arg : ℕ} (from k end : ℕ) {P : List ℕ → Type 0} (ws : Walks kind arg from k end P) where
     module _ (le : end ≤ from + k - 1) (lt : from < end) {d : Node} (read : d ≡ nodeAt s n (end - 1)) where
       turn-of : (ρ : Rule) (rest : Rules) (passed : List ℕ) → Walk kind arg from k end ρ rest passed → P passed → Turn kind arg from k end P ρ d
-      unfolding size Stands upTo
+      unfolding size EncodedAt upTo
       turn-of ρ nil passed w h = absurd (omega (arith, w .ends))
       turn-of ρ (more rest q) passed w h =
           let ends = w .ends in
@@ -116,12 +116,12 @@ module _ (s : List ℕ) (n : ℕ) where
             };
           }
 
-      pub turn : (ρ : Rule) → size ρ ≡ k → Stands ρ (cellAt s n) from → Turn kind arg from k end P ρ d
+      pub turn : (ρ : Rule) → size ρ ≡ k → EncodedAt ρ (cellAt s n) from → Turn kind arg from k end P ρ d
       turn ρ e st = let (rest, passed, w, h) = ws ρ e st in turn-of ρ rest passed w h
 
       -- one child more is passed
       pub walks-next : {P′ : List ℕ → Type 0} →
-          ((q : Rule) (t : List ℕ) → size q ≡ d .size → Stands q (cellAt s n) (end - d .size) → P t → P′ (frontOf kind (d .kind) ++ (textOf q ++ (backOf kind (d .kind) (eqb end (from + k - 1)) ++ t)))) →
+          ((q : Rule) (t : List ℕ) → size q ≡ d .size → EncodedAt q (cellAt s n) (end - d .size) → P t → P′ (frontOf kind (d .kind) ++ (textOf q ++ (backOf kind (d .kind) (eqb end (from + k - 1)) ++ t)))) →
           Walks kind arg from k (end - d .size) P′
       walks-next f ρ e st = let t = turn ρ e st in (t .before, _, t .next, f (t .child) (t .passed) (t .sized) (t .stands) (t .holds))
 
@@ -131,20 +131,20 @@ module _ (s : List ℕ) (n : ℕ) where
     done-of ρ (more rest q) le w = absurd (omega (arith, w .ends, size-pos q))
 
     -- all are passed
-    pub walks-done : end ≤ from → (ρ : Rule) → size ρ ≡ k → Stands ρ (cellAt s n) from → (t : List ℕ) × (textOf ρ ≡ openingOf kind arg ++ t) × P t
+    pub walks-done : end ≤ from → (ρ : Rule) → size ρ ≡ k → EncodedAt ρ (cellAt s n) from → (t : List ℕ) × (textOf ρ ≡ openingOf kind arg ++ t) × P t
     walks-done le ρ e st = let (rest, passed, w, h) = ws ρ e st in (passed, done-of ρ rest le w, h)
 
   -- ---- at most 65,600 bytes a node, and 6 of them round the text
   mutual
-    unfolding size Stands textOf cellAt leafTextOf
+    unfolding size EncodedAt textOf cellAt leafTextOf
 
-    pub text-short : (r : Rule) (from : ℕ) → Stands r (cellAt s n) from → length (textOf r) + 6 ≤ 65_600 * size r
+    pub text-short : (r : Rule) (from : ℕ) → EncodedAt r (cellAt s n) from → length (textOf r) + 6 ≤ 65_600 * size r
     text-short (leaf l) from st = omega (arith, rw (st .0) at (leaf-short s n (nodeAt s n from .kind) (nodeAt s n from .arg)))
     text-short (node j rs r) from st =
         rw (length-append, length-append)
         (omega (arith, opening-short j, children-short rs from (st .0) j, child-short j r (textOf r) true, text-short r (from + sizes rs) (st .1)))
 
-    children-short : (rs : Rules) (from : ℕ) → StandAll rs (cellAt s n) from → (j : Join) → length (childrenText rs j) ≤ 65_600 * sizes rs
+    children-short : (rs : Rules) (from : ℕ) → EncodedAllAt rs (cellAt s n) from → (j : Join) → length (childrenText rs j) ≤ 65_600 * sizes rs
     children-short nil from st j = omega arith
     children-short (more rs r) from st j =
         rw length-append

@@ -14,7 +14,7 @@ use Rattle.image.specs.Layout.{namesStart}
 use Rattle.image.specs.Encode.{leafKind, joinKind, joinArg}
 use Rattle.image.specs.Decode.{Meaning, aLeaf, aJoin, nothing, meaning, Cell}
 use Rattle.image.specs.Inner.Leaves.{isLeaf}
-use Rattle.image.specs.Inner.Standing.{Stands}
+use Rattle.image.specs.Inner.Standing.{EncodedAt}
 use Rattle.image.proofs.Laws.KindLaws.{above-leaf, says, NoLeaf, no-leaf}
 use Rattle.print_text.specs.Print.{opening, behind, isAny, bracketed, bracket, childText}
 use Rattle.print_text.specs.Inner.Pieces.{leafTextOf, leafIn, openingOf, behindOf, bracketedOf, frontOf, backOf}
@@ -31,8 +31,8 @@ kindOf (leaf l) = leafKind l
 kindOf (node j rs r) = joinKind j
 
 -- a rule's last cell is its root
-pub root-what : (r : Rule) (f : ℕ → Cell) (s i : ℕ) → s + size r ≡ suc i → Stands r f s → f i .what ≡ rootOf r
-unfolding size Stands
+pub root-what : (r : Rule) (f : ℕ → Cell) (s i : ℕ) → s + size r ≡ suc i → EncodedAt r f s → f i .what ≡ rootOf r
+unfolding size EncodedAt
 root-what (leaf l) f s i e st =
     let p : i ≡ s = omega arith in
     rw p (st .0)

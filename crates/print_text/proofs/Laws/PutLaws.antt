@@ -5,26 +5,26 @@ use Prim.Native.Nat.{ℕ, _+_, _-_, _≤_}
 use native.Mathlib.Omega.{arith}
 use lib.Dec.{eqb}
 use lib.ListN.{length}
-use Rattle.slices.specs.Written.{Put}
+use Rattle.slices.specs.Written.{WrittenAt}
 use Rattle.slices.proofs.Laws.WrittenLaws.{put-length}
 use Rattle.rules.specs.Rule.{Rule, size}
 use Rattle.image.specs.Decode.{Node, cellAt}
-use Rattle.image.specs.Inner.Standing.{Stands}
+use Rattle.image.specs.Inner.Standing.{EncodedAt}
 use Rattle.image.proofs.Laws.StandingLaws.{one-rule}
 use Rattle.print_text.specs.Print.{textOf}
 use Rattle.print_text.specs.Inner.Pieces.{frontOf, backOf}
 use Rattle.print_text.proofs.Laws.ChildrenLaws.{Turn, turn-room}
 
 -- bytes that are put begin inside the text
-pub put-start : {a b v : List ℕ} {to end : ℕ} → end ≤ length a → Put a b to end v → to ≤ length b
+pub put-start : {a b v : List ℕ} {to end : ℕ} → end ≤ length a → WrittenAt a b to end v → to ≤ length b
 put-start long x = omega (arith, put-length long x, x .ends)
 
 -- of a rule whose text has room before `end`, a part is put from `to` on, and a child is the next to be put
-module _ {s : List ℕ} {n kind arg from k stop : ℕ} {a b : List ℕ} {to end : ℕ} {ρ : Rule} {d : Node} (fits : length (textOf ρ) ≤ end) (u : Turn s n kind arg from k stop (λ t. Put a b to end t) ρ d) where
+module _ {s : List ℕ} {n kind arg from k stop : ℕ} {a b : List ℕ} {to end : ℕ} {ρ : Rule} {d : Node} (fits : length (textOf ρ) ≤ end) (u : Turn s n kind arg from k stop (λ t. WrittenAt a b to end t) ρ d) where
   -- its pieces have room before `to`
   pub pieces-room : length (frontOf kind (d .kind)) + (length (textOf (u .child)) + length (backOf kind (d .kind) (eqb stop (from + k - 1)))) ≤ to
   pieces-room = omega (arith, turn-room s n u, u .holds .ends)
 
   -- and its text has once its back is put
-  pub child-room : {p : ℕ} → p + length (backOf kind (d .kind) (eqb stop (from + k - 1))) ≡ to → (r : Rule) → size r ≡ d .size → Stands r (cellAt s n) (stop - d .size) → length (textOf r) ≤ p
+  pub child-room : {p : ℕ} → p + length (backOf kind (d .kind) (eqb stop (from + k - 1))) ≡ to → (r : Rule) → size r ≡ d .size → EncodedAt r (cellAt s n) (stop - d .size) → length (textOf r) ≤ p
   child-room e r z st = rw (one-rule r (u .child) (cellAt s n) (stop - d .size) (z ∙ sym (u .sized)) st (u .stands)) (omega (arith, pieces-room))

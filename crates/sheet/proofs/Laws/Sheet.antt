@@ -8,14 +8,14 @@ use Rattle.slices.specs.Text.{bytes, part, run, runEnd, allAscii, other}
 use Rattle.ascii.specs.Letters.{lower, equalBy}
 use Rattle.classes.specs.Class.{classOf, ofClass}
 use Rattle.refusals.specs.declared.Refusal.{Refusal}
-use Rattle.refusals.specs.Refusals.{refusal, halfSign, noExpression, openBracket, badCount, emptyList, unconfirmed, archiveOnly}
-use Rattle.tokens.specs.Token.{ascii, placeOf, doubled, quotedTo, quotedAt, bareTo, bareAt, tokenOf, startAt, tokenAt, nextOf, tokensBy, tokensFrom, scanOf}
+use Rattle.refusals.specs.Refusals.{refusal, halfSign, noExpression, bracketExpected, badCount, emptyList, unconfirmed, archiveOnly}
+use Rattle.tokens.specs.Token.{ascii, placeOf, doubled, quotedTo, quotedAt, unquotedTo, unquotedAt, tokenOf, startAt, tokenAt, nextOf, tokensBy, tokensFrom, scanOf}
 use Rattle.decimal.specs.Count.{countOf}
 use Rattle.decimal.specs.Digits.{digitsOf}
 use Rattle.durations.specs.Duration.{durationOf}
 use Rattle.duration_text.specs.DurationText.{durationText}
 use Rattle.rules.specs.Rule.{named, olderThan, readable, Join, all, any, Rule, leaf, node, nil, more, size}
-use Rattle.grammar.specs.Grammar.{after, firstPlace, dueIn, olderThanHead, readableHead, atLeastHead, functionOf, bareLeaf, headIn, leftRules, chain, orIn}
+use Rattle.grammar.specs.Grammar.{after, firstPlace, expectedWord, olderThanStart, readableStart, atLeastStart, functionOf, unquotedLeaf, primaryStart, leftRules, chain, orIn}
 use Rattle.grammar.specs.Reading.{Read, rule, refused, parseOf, readOf}
 use Rattle.little_endian.specs.Bytes.{leAt}
 use Rattle.store_table.specs.Names.{has}
@@ -85,10 +85,10 @@ rows =
     refuses "any(a,)" noExpression 6 ∷
     refuses "any()" emptyList 0 ∷
     refuses "" noExpression 0 ∷
-    refuses "older_than(1h 30m)" openBracket 14 ∷
+    refuses "older_than(1h 30m)" bracketExpected 14 ∷
     reads "older_than(\"1h 30m\")" (leaf (olderThan 5_400_000)) 1 ∷
     refuses "readable(x" badCount 9 ∷
-    refuses "older_than(x" openBracket 12 ∷
+    refuses "older_than(x" bracketExpected 12 ∷
     refuses ") a &" halfSign 4 ∷
     -- document 02, Job 2: "The sheet's row `'READABLE'` becomes a name of eight bytes."
     reads "'READABLE'" (name "READABLE") 1 ∷
@@ -101,7 +101,7 @@ rows =
 
 -- by computation, over all rows at once
 rows-computed : map answerOf rows ≡ map expected rows
-unfolding answerOf expected run runEnd part lower equalBy classOf ofClass other doubled quotedTo quotedAt bareTo bareAt tokenOf startAt tokenAt nextOf tokensBy tokensFrom scanOf countOf durationOf ascii placeOf size after firstPlace dueIn olderThanHead readableHead atLeastHead functionOf bareLeaf headIn leftRules chain orIn parseOf readOf leAt allAscii has sum allAtMost wellMade entriesIn isReadable allNames writeOnlyNames readyCount twinOf evict unknownIn checkRule judgeOf durationText textOf digitsOf
+unfolding answerOf expected run runEnd part lower equalBy classOf ofClass other doubled quotedTo quotedAt unquotedTo unquotedAt tokenOf startAt tokenAt nextOf tokensBy tokensFrom scanOf countOf durationOf ascii placeOf size after firstPlace expectedWord olderThanStart readableStart atLeastStart functionOf unquotedLeaf primaryStart leftRules chain orIn parseOf readOf leAt allAscii has sum allAtMost wellMade entriesIn isReadable allNames writeOnlyNames readyCount twinOf evict unknownIn checkRule judgeOf durationText textOf digitsOf
 rows-computed = refl
 
 -- each row holds

@@ -11,12 +11,12 @@ use lib.ListN.{getD}
 use Rattle.slices.specs.Text.{bytes, AllBytes, part, run, runEnd, allAscii, other}
 use Rattle.ascii.specs.Letters.{lower, equalBy}
 use Rattle.classes.specs.Class.{classOf, ofClass}
-use Rattle.tokens.specs.Token.{ascii, placeOf, doubled, quotedTo, quotedAt, bareTo, bareAt, tokenOf, startAt, tokenAt, nextOf, tokensBy, tokensFrom, scanOf}
+use Rattle.tokens.specs.Token.{ascii, placeOf, doubled, quotedTo, quotedAt, unquotedTo, unquotedAt, tokenOf, startAt, tokenAt, nextOf, tokensBy, tokensFrom, scanOf}
 use Rattle.decimal.specs.Count.{countOf}
 use Rattle.durations.specs.Duration.{durationOf}
 use Rattle.little_endian.specs.Bytes.{leAt}
 use Rattle.rules.specs.Rule.{Rule, size}
-use Rattle.grammar.specs.Grammar.{after, firstPlace, dueIn, olderThanHead, readableHead, atLeastHead, functionOf, bareLeaf, headIn, leftRules, chain, orIn}
+use Rattle.grammar.specs.Grammar.{after, firstPlace, expectedWord, olderThanStart, readableStart, atLeastStart, functionOf, unquotedLeaf, primaryStart, leftRules, chain, orIn}
 use Rattle.grammar.specs.Reading.{rule, parseOf, readOf}
 use Rattle.store_table.specs.Names.{has}
 use Rattle.store_table.specs.Stores.{sum, allAtMost, wellMade, countIn, entriesIn, isReadable, allNames, writeOnlyNames, readyCount, twinOf}
@@ -51,7 +51,7 @@ abbrev pub text : List ℕ
 text = bytes "older_than(30d) && readable(1)"
 
 passes : judgeOf text home ≡ Pass
-unfolding run runEnd part lower equalBy classOf ofClass other doubled quotedTo quotedAt bareTo bareAt tokenOf startAt tokenAt nextOf tokensBy tokensFrom scanOf countOf durationOf ascii placeOf size after firstPlace dueIn olderThanHead readableHead atLeastHead functionOf bareLeaf headIn leftRules chain orIn parseOf readOf leAt allAscii has sum allAtMost wellMade entriesIn isReadable allNames writeOnlyNames readyCount twinOf evict unknownIn checkRule judgeOf
+unfolding run runEnd part lower equalBy classOf ofClass other doubled quotedTo quotedAt unquotedTo unquotedAt tokenOf startAt tokenAt nextOf tokensBy tokensFrom scanOf countOf durationOf ascii placeOf size after firstPlace expectedWord olderThanStart readableStart atLeastStart functionOf unquotedLeaf primaryStart leftRules chain orIn parseOf readOf leAt allAscii has sum allAtMost wellMade entriesIn isReadable allNames writeOnlyNames readyCount twinOf evict unknownIn checkRule judgeOf
 passes = refl
 
 -- the text reads as a rule that names only stores of the table, and is safe for it

@@ -6,16 +6,16 @@ use native.Mathlib.Omega.{arith}
 use borrow.Author.Needs.{needs}
 use Rattle.tokens.specs.declared.Next.the-variants.{Off, To}
 use Rattle.tokens.specs.Token.{tokenAt}
-use Rattle.tokens.specs.Inner.Bounds.{behind}
+use Rattle.tokens.specs.Inner.Bounds.{nextOfClass}
 use Rattle.tokens.proofs.Laws.SignLaws.{behind-end, behind-sign, behind-word, behind-none}
 use Rattle.signs.proofs.sign_at.Statement.{statement}
 use Rattle.signs.proofs.sign_at.Tie as tie
 
--- once the byte after the first has been looked at: the text goes on behind the two if they are alike
+-- once the byte after the first has been looked at: the text goes on nextOfClass the two if they are alike
 signed : (c : tie.After-doubled-at) {v : Bool} → c .doubled-at .result ≡ v →
     let placed = c .before .before .before .before .before in
     let start = placed .before .before .args in
-    behind (start .k) (tokenAt (start .text .now) (start .at)) ≡ cond v (To (placed .class-end .result + 2)) Off
+    nextOfClass (start .k) (tokenAt (start .text .now) (start .at)) ≡ cond v (To (placed .class-end .result + 2)) Off
 signed c e =
     let d = c .before .before in
     behind-sign _ _ (d .before .before .before .class-end .ensures) _ (omega arith) (d .class-at .ensures) (omega arith) (omega arith) (c .before .if2 .taken) ∙
@@ -34,7 +34,7 @@ returns-4 : tie.Need-returns-4
 returns-4 c =
     let d = c .before .before .before .before in
     let bare = behind-word _ _ (d .before .before .before .class-end .ensures) _ (omega arith) (d .class-at .ensures) (c .before .before .if4 .taken) in
-    c .next-if .ensures ∙ ap (behind _) (c .before .bare-at .ensures) ∙ sym bare
+    c .next-if .ensures ∙ ap (nextOfClass _) (c .before .unquoted-at .ensures) ∙ sym bare
 
 returns-5 : tie.Need-returns-5
 returns-5 c =
@@ -53,7 +53,7 @@ sign-at-spec =
     (λ c. search needs)  -- add-t12
     returns-2
     returns-3
-    (λ c κs. search needs)  -- bare-at-requires
+    (λ c κs. search needs)  -- unquoted-at-requires
     (λ c κs. search needs)  -- next-if-requires
     returns-4
     returns-5)

@@ -10,7 +10,7 @@ use lib.Dec.{leb}
 use lib.ListN.{length, drop, getD, drop-of-length-le}
 use lib.Seq.{drop-cons}
 use Rattle.ascii.specs.Letters.{within}
-use Rattle.slices.specs.Search.{largest, behindLast}
+use Rattle.slices.specs.Search.{largest, endOfLast}
 
 module _ (s : List ℕ) (i : ℕ) where
   -- past the end of the list
@@ -26,27 +26,27 @@ module _ (s : List ℕ) (i : ℕ) where
 -- ---- behind the last byte that passes a test
 module _ (p : ℕ → Bool) (s : List ℕ) where
   -- the byte before a position passes it
-  pub last-here : (i : ℕ) → 0 < i → p (getD s (i - 1) 0) ≡ true → behindLast p s i ≡ i
-  unfolding behindLast
+  pub last-here : (i : ℕ) → 0 < i → p (getD s (i - 1) 0) ≡ true → endOfLast p s i ≡ i
+  unfolding endOfLast
   last-here zero l e = absurd (omega arith)
   last-here (suc i) l e = let q : suc i - 1 ≡ i = omega arith in rw (rw q at e)
 
   -- it does not
-  pub last-before : (i : ℕ) → 0 < i → p (getD s (i - 1) 0) ≡ false → behindLast p s i ≡ behindLast p s (i - 1)
-  unfolding behindLast
+  pub last-before : (i : ℕ) → 0 < i → p (getD s (i - 1) 0) ≡ false → endOfLast p s i ≡ endOfLast p s (i - 1)
+  unfolding endOfLast
   last-before zero l e = absurd (omega arith)
   last-before (suc i) l e = let q : suc i - 1 ≡ i = omega arith in rw (q, rw q at e)
 
-  pub last-none : behindLast p s 0 ≡ 0
-  unfolding behindLast
+  pub last-none : endOfLast p s 0 ≡ 0
+  unfolding endOfLast
   last-none = refl
 
   last-step : (v : Bool) {n i : ℕ} → n ≤ i → cond v (suc i) n ≤ suc i
   last-step true h = omega arith
   last-step false h = omega arith
 
-  pub last-le : (i : ℕ) → behindLast p s i ≤ i
-  unfolding behindLast
+  pub last-le : (i : ℕ) → endOfLast p s i ≤ i
+  unfolding endOfLast
   last-le zero = omega arith
   last-le (suc i) = last-step (p (getD s i 0)) (last-le i)
 

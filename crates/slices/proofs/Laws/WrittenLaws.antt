@@ -8,7 +8,7 @@ use native.Mathlib.Decide.{ℕ-discrete}
 use native.Mathlib.Omega.{arith}
 use lib.ListN.{length, getD, set, take, drop, length-append, length-take, length-drop, take-append-drop}
 use lib.Seq.{length-take-le, take-suc, take-at, take-append-le, take-take, drop-at, drop-drop, sets, sets-eq, getD-set-same, getD-set-other}
-use Rattle.slices.specs.Written.{written, Put}
+use Rattle.slices.specs.Written.{written, WrittenAt}
 
 pub written-none : (s : List ℕ) (at : ℕ) → s ≡ written s at []
 unfolding written
@@ -52,11 +52,11 @@ module _ (s : List ℕ) (at : ℕ) (h : at ≤ length s) where
         (written-then (take i xs) (getD xs i 0 ∷ []) (at + i) (rw front-length) e (written-sets s′ (at + i) (getD xs i 0 ∷ []) (omega arith)))
 
 -- ---- bytes put into a text, from its end on: none
-pub put-none : (s : List ℕ) (end : ℕ) → Put s s end end []
+pub put-none : (s : List ℕ) (end : ℕ) → WrittenAt s s end end []
 put-none s end = record { ends = add-zero end; text = written-none s end }
 
 -- a byte that ends at a position
-pub put-byte : (s : List ℕ) (end b : ℕ) → 1 ≤ end → end ≤ length s → Put s (set s (end - 1) b) (end - 1) end (b ∷ [])
+pub put-byte : (s : List ℕ) (end b : ℕ) → 1 ≤ end → end ≤ length s → WrittenAt s (set s (end - 1) b) (end - 1) end (b ∷ [])
 put-byte s end b l h = record { ends = omega arith; text = written-sets s (end - 1) (b ∷ []) (omega arith) }
 
 -- what is written before what was written
@@ -70,7 +70,7 @@ written-before s p at v w h e =
     (simp append-assoc)
 
 -- what is put before what was put
-pub put-before : {a b c : List ℕ} {p s e : ℕ} {v w : List ℕ} → e ≤ length a → Put a b s e v → Put b c p s w → Put a c p e (w ++ v)
+pub put-before : {a b c : List ℕ} {p s e : ℕ} {v w : List ℕ} → e ≤ length a → WrittenAt a b s e v → WrittenAt b c p s w → WrittenAt a c p e (w ++ v)
 put-before {a} {b} {c} {p} {s} {e} {v} {w} h x y =
     record {
       ends = rw length-append (omega arith);
@@ -78,20 +78,20 @@ put-before {a} {b} {c} {p} {s} {e} {v} {w} h x y =
     }
 
 -- where it begins is told by where it ends
-pub put-from : {a b : List ℕ} {s e : ℕ} {v : List ℕ} (t : ℕ) → t + length v ≡ e → Put a b s e v → Put a b t e v
+pub put-from : {a b : List ℕ} {s e : ℕ} {v : List ℕ} (t : ℕ) → t + length v ≡ e → WrittenAt a b s e v → WrittenAt a b t e v
 put-from {a} {b} {s} {e} {v} t q x = let h : s ≡ t = omega arith in rw h at x
 
 -- what is put behind what was put
-pub put-behind : {a b c : List ℕ} {s p e : ℕ} {v w : List ℕ} → s ≤ length a → Put a b s p v → Put b c p e w → Put a c s e (v ++ w)
+pub put-behind : {a b c : List ℕ} {s p e : ℕ} {v w : List ℕ} → s ≤ length a → WrittenAt a b s p v → WrittenAt b c p e w → WrittenAt a c s e (v ++ w)
 put-behind {a} {b} {c} {s} {p} {e} {v} {w} h x y = record { ends = rw length-append (omega arith); text = written-then a s h v w p (x .ends) (x .text) (y .text) }
 
 -- what was put ends what stands before its end
-pub put-front : {a b : List ℕ} {s e : ℕ} {v : List ℕ} → s ≤ length a → Put a b s e v → take e b ≡ take s a ++ v
+pub put-front : {a b : List ℕ} {s e : ℕ} {v : List ℕ} → s ≤ length a → WrittenAt a b s e v → take e b ≡ take s a ++ v
 unfolding written
 put-front {a} {b} {s} {e} {v} h x = rw (x .text, ← append-assoc (take s a) v _) (take-at (take s a ++ v) _ e (head-length a s h v ∙ x .ends))
 
 -- a text keeps its length
-pub put-length : {a b : List ℕ} {s e : ℕ} {v : List ℕ} → e ≤ length a → Put a b s e v → length b ≡ length a
+pub put-length : {a b : List ℕ} {s e : ℕ} {v : List ℕ} → e ≤ length a → WrittenAt a b s e v → length b ≡ length a
 unfolding written
 put-length {a} {b} {s} {e} {v} h x = rw (x .text) (simp (length-append, length-take, length-drop) (omega arith))
 

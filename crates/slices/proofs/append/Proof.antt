@@ -1,4 +1,4 @@
--- `slices::append` meets its contract: the piece is put so that it ends its length behind the position. Assumes nothing.
+-- `slices::append` meets its contract: the piece is prepend so that it ends its length behind the position. Assumes nothing.
 use native.Mathlib.Omega.{arith}
 use borrow.Author.Needs.{needs}
 use Rattle.slices.proofs.Laws.WrittenLaws.{put-from}
@@ -8,14 +8,14 @@ use Rattle.slices.proofs.append.Tie as tie
 add-end : tie.Need-add-end
 add-end c = search needs
 
-put-requires : tie.Need-put-requires
-put-requires c κs = search needs
+prepend-requires : tie.Need-prepend-requires
+prepend-requires c κs = search needs
 
 same-length : tie.Need-same-length
 same-length c = search needs
 
 returns : tie.Need-returns
-returns c = put-from _ (omega arith) (c .before .before .put .ensures)
+returns c = put-from _ (omega arith) (c .before .before .prepend .ensures)
 
 pub append-spec : {M : Type 1} → statement M
-append-spec = tie.close (tie.spec add-end put-requires same-length returns)
+append-spec = tie.close (tie.spec add-end prepend-requires same-length returns)

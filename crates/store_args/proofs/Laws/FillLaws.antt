@@ -7,7 +7,7 @@ use native.Mathlib.Omega.{arith}
 use lib.ListN.{length, take, drop, set, length-append}
 use lib.Seq.{take-suc-set, append-snoc}
 use Rattle.slices.specs.Text.{runEnd, other}
-use Rattle.slices.specs.Written.{Put}
+use Rattle.slices.specs.Written.{WrittenAt}
 use Rattle.slices.proofs.Laws.WrittenLaws.{put-front}
 use Rattle.store_table.specs.Stores.{Entry}
 use Rattle.store_table.specs.TableBytes.{modes, lengths, joined}
@@ -30,7 +30,7 @@ joined-one (x ∷ es) e = rw (joined-one es e, append-assoc)
 abbrev Room : Arrays → ℕ → ℕ → Type 0
 Room a k used = (k < length (a .modes)) × ((k < length (a .lengths)) × (used + 255 ≤ length (a .names)))
 
-hold-on : {es : List Entry} {k used end : ℕ} {a b : Arrays} (e : Entry) → Hold es k used a → Room a k used → b .modes ≡ set (a .modes) k (e .mode) → b .lengths ≡ set (a .lengths) k (length (e .name)) → Put (a .names) (b .names) used end (e .name) → Hold (es ++ (e ∷ [])) (k + 1) end b
+hold-on : {es : List Entry} {k used end : ℕ} {a b : Arrays} (e : Entry) → Hold es k used a → Room a k used → b .modes ≡ set (a .modes) k (e .mode) → b .lengths ≡ set (a .lengths) k (length (e .name)) → WrittenAt (a .names) (b .names) used end (e .name) → Hold (es ++ (e ∷ [])) (k + 1) end b
 unfolding modes lengths
 hold-on {k} {a} e h r m l n =
     record {

@@ -9,7 +9,7 @@ use lib.ListN.{length, take, drop, set, length-drop}
 use lib.Seq.{length-take-le, take-all}
 use Rattle.slices.specs.Text.{bytes, allAscii}
 use Rattle.ascii.specs.Letters.{equal}
-use Rattle.slices.specs.Written.{Put}
+use Rattle.slices.specs.Written.{WrittenAt}
 use Rattle.store_table.specs.Stores.{readWrite, readOnly, writeOnly}
 use Rattle.store_args.specs.Arguments as arguments
 use Rattle.store_args.specs.Arguments.{wrong, named, modeTested, behindColon, colonTested, givenBy}
@@ -67,7 +67,7 @@ module _ {w : List ℕ} {r : Given} {g : arguments.Given} (x : Is w r g) (k used
   pub one-wrong : (f : Fault) → r ≡ Wrong f → (a b : Arrays) → OneOf g k used a b (Amiss f)
   one-wrong f q a b = record { used-to = λ end p. let z : _≡_ {A = ℕ} 0 1 = cc in absurd (omega arith); bad = λ f′ p. sym (x .same) ∙ rw q (cc) }
 
-  pub one-store : (m e end : ℕ) → r ≡ Store m e → (ms ls : List ℕ) {ns ns′ : List ℕ} → Put ns ns′ used end (take e w) → OneOf g k used (arrays ms ls ns) (arrays (set ms k m) (set ls k e) ns′) (Used end)
+  pub one-store : (m e end : ℕ) → r ≡ Store m e → (ms ls : List ℕ) {ns ns′ : List ℕ} → WrittenAt ns ns′ used end (take e w) → OneOf g k used (arrays ms ls ns) (arrays (set ms k m) (set ls k e) ns′) (Used end)
   one-store m e end q ms ls p = record {
     used-to = λ to s.
         let t : end ≡ to = cc in

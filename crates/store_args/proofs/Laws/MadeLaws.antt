@@ -4,7 +4,7 @@ use mathlib.Core.List.{List, _++_, append-assoc}
 use Prim.Native.Nat.{ℕ, _≤_}
 use native.Mathlib.Omega.{arith}
 use lib.ListN.{length, take}
-use Rattle.slices.specs.Written.{written, Put}
+use Rattle.slices.specs.Written.{written, WrittenAt}
 use Rattle.slices.proofs.Laws.WrittenLaws.{put-front, put-behind}
 use Rattle.little_endian.specs.Bytes.{leBytes}
 use Rattle.store_table.specs.Stores.{countStart, totalStart, modesStart, Entry}
@@ -32,12 +32,12 @@ module _ {s : Stores} {a : Arrays} {r : Filled} (f : FilledBy s a r) where
       }
 
   -- the parts stand one behind the other
-  pub made-table : {count used m l n : ℕ} (t : List ℕ) {t₁ t₂ t₃ t₄ t₅ : List ℕ} → r ≡ All count used → t₁ ≡ written t countStart (leBytes 2 count) → t₂ ≡ written t₁ totalStart (leBytes 2 used) → Put t₂ t₃ modesStart m (take count (a .modes)) → Put t₃ t₄ m l (take count (a .lengths)) → Put t₄ t₅ l n (take used (a .names)) → n ≤ length t₅ → MadeOf s t₅ (Table n)
+  pub made-table : {count used m l n : ℕ} (t : List ℕ) {t₁ t₂ t₃ t₄ t₅ : List ℕ} → r ≡ All count used → t₁ ≡ written t countStart (leBytes 2 count) → t₂ ≡ written t₁ totalStart (leBytes 2 used) → WrittenAt t₂ t₃ modesStart m (take count (a .modes)) → WrittenAt t₃ t₄ m l (take count (a .lengths)) → WrittenAt t₄ t₅ l n (take used (a .names)) → n ≤ length t₅ → MadeOf s t₅ (Table n)
   unfolding leBytes
   made-table {count} {used} {n} t {t₁} {t₂} q e₁ e₂ p₃ p₄ p₅ h =
       let w = f .filled count used q in
-      let p₁ : Put t t₁ countStart totalStart (leBytes 2 count) = record { ends = refl; text = e₁ } in
-      let p₂ : Put t₁ t₂ totalStart modesStart (leBytes 2 used) = record { ends = refl; text = e₂ } in
+      let p₁ : WrittenAt t t₁ countStart totalStart (leBytes 2 count) = record { ends = refl; text = e₁ } in
+      let p₂ : WrittenAt t₁ t₂ totalStart modesStart (leBytes 2 used) = record { ends = refl; text = e₂ } in
       let z : countStart ≤ length t = omega arith in
       let e = put-front z (put-behind z (put-behind z (put-behind z (put-behind z p₁ p₂) p₃) p₄) p₅) in
       record {

@@ -10,22 +10,22 @@ returns : tie.Need-returns
 returns c = is-wrong LongName (given-long _ (c .if1 .taken))
 
 returns-2 : tie.Need-returns-2
-returns-2 c = is-wrong NoColon (given-plain _ (c .before .before .if1 .left) (c .before .behind-last .ensures) (c .if2 .taken))
+returns-2 c = is-wrong NoColon (given-plain _ (c .before .before .if1 .left) (c .before .end-of-last .ensures) (c .if2 .taken))
 
 mode-tested-requires : tie.Need-mode-tested-requires
-mode-tested-requires c κs = (search needs, rw (c .before .behind-last .ensures) (last-le _ _ _))
+mode-tested-requires c κs = (search needs, rw (c .before .end-of-last .ensures) (last-le _ _ _))
 
 returns-3 : tie.Need-returns-3
 returns-3 c =
     let t = c .before in
-    rw (given-mode _ (t .before .before .if1 .left) (t .before .behind-last .ensures) (t .if2 .left)) (c .mode-tested .ensures)
+    rw (given-mode _ (t .before .before .if1 .left) (t .before .end-of-last .ensures) (t .if2 .left)) (c .mode-tested .ensures)
 
 pub given-by-spec : {M : Type 1} → statement M
 given-by-spec =
     tie.close
     (tie.spec
     returns
-    (λ c κs. search needs)  -- behind-last-requires
+    (λ c κs. search needs)  -- end-of-last-requires
     returns-2
     (λ c. search needs)  -- sub-mode-tested
     mode-tested-requires

@@ -3,7 +3,7 @@ use Prim.Native.Nat.{ℕ, _≤_}
 use mathlib.Core.Path.{_≡_}
 use mathlib.Core.List.{List}
 use lib.ListN.{length, take, set}
-use Rattle.slices.specs.Written.{Put}
+use Rattle.slices.specs.Written.{WrittenAt}
 use Rattle.store_table.specs.Stores.{Entry}
 use Rattle.store_table.specs.TableBytes as table
 use Rattle.store_args.specs.Arguments as arguments
@@ -39,7 +39,7 @@ arrays ms ls ns = record { modes = ms; lengths = ls; names = ns }
 
 -- a store more stands in the arrays, as number k, its name up to where the answer says
 pub record OneOf (g : arguments.Given) (k used : ℕ) (a b : Arrays) (r : One) : Type 0 where
-  pub used-to : (end : ℕ) → r ≡ Used end → (e : Entry) × ((g ≡ arguments.store e) × ((b .modes ≡ set (a .modes) k (e .mode)) × ((b .lengths ≡ set (a .lengths) k (length (e .name))) × Put (a .names) (b .names) used end (e .name))))
+  pub used-to : (end : ℕ) → r ≡ Used end → (e : Entry) × ((g ≡ arguments.store e) × ((b .modes ≡ set (a .modes) k (e .mode)) × ((b .lengths ≡ set (a .lengths) k (length (e .name))) × WrittenAt (a .names) (b .names) used end (e .name))))
   pub bad : (f : Fault) → r ≡ Amiss f → g ≡ arguments.wrong f
 
 -- the arrays hold the stores

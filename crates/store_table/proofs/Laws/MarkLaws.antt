@@ -11,7 +11,7 @@ use Rattle.store_table.specs.Names.{sameName, has}
 use Rattle.store_table.proofs.Laws.NamesLaws.{has-next}
 use Rattle.store_table.proofs.Laws.SameLaws.{same-not}
 use Rattle.store_table.proofs.Laws.MemberLaws.{same-eq, eq-same}
-use Rattle.store_table.specs.Stores.{Entry, Laid, countIn, entriesIn, allNames, twinOf}
+use Rattle.store_table.specs.Stores.{Entry, TableInBounds, countIn, entriesIn, allNames, twinOf}
 use Rattle.store_table.proofs.Laws.WalkLaws.{length-entries}
 use Rattle.store_table.proofs.Laws.EntryLaws.{at-below, has-at, one-place}
 use Rattle.store_table.specs.Inner.Index.{EntryAt, Blank, Marked}
@@ -38,7 +38,7 @@ module _ (s : List ℕ) (fs : List Entry) (j : ℕ) (marks : List ℕ) (h : Mark
       (λ n. other k x e (λ u. n (one-place (entriesIn s) t k i e g (u ∙ q))))
 
   -- no store has it
-  pub marked-none : Laid s → has (y .name) (allNames (take (countIn s) (entriesIn s))) ≡ false → Marked (entriesIn s) (allNames (take (j + 1) fs)) marks
+  pub marked-none : TableInBounds s → has (y .name) (allNames (take (countIn s) (entriesIn s))) ≡ false → Marked (entriesIn s) (allNames (take (j + 1) fs)) marks
   marked-none l p k x e =
       other k x e
       (λ u. true≢false (sym (rw u at (has-at (entriesIn s) (countIn s) k (omega (arith, at-below (entriesIn s) k e, length-entries s l)) e)) ∙ p))

@@ -9,7 +9,7 @@ use lib.Dec.{eqb, leb}
 use lib.ListN.{length, take, drop}
 use Rattle.little_endian.specs.Bytes.{leAt}
 use Rattle.slices.specs.Text.{allAscii}
-use Rattle.store_table.specs.Stores.{countStart, totalStart, modesStart, lengthsStart, namesStart, countIn, totalIn, modesIn, lengthsIn, nameBytesIn, sum, allAtMost, wellMade, Laid}
+use Rattle.store_table.specs.Stores.{countStart, totalStart, modesStart, lengthsStart, namesStart, countIn, totalIn, modesIn, lengthsIn, nameBytesIn, sum, allAtMost, wellMade, TableInBounds}
 
 -- bytes that are too short
 pub unmade-short : (most : ℕ) (s : List ℕ) → length s < modesStart → false ≡ wellMade most s
@@ -62,7 +62,7 @@ made most s h =
     record { few = leb-true _ _ few; long = eqb-true _ _ long; filled = eqb-true _ _ filled; modes = modes; ascii = ascii }
 
 -- its names lie within it
-pub well-made-laid : (most : ℕ) (s : List ℕ) → wellMade most s ≡ true → Laid s
+pub well-made-laid : (most : ℕ) (s : List ℕ) → wellMade most s ≡ true → TableInBounds s
 well-made-laid most s h =
     let m = made most s h in
     record { arrays = omega (arith, m .long); names = omega (arith, m .long, m .filled); few = m .few }

@@ -11,7 +11,7 @@ use Rattle.little_endian.specs.Bytes.{leBytes, leAt}
 use Rattle.little_endian.proofs.Laws.BytesLaws.{leNumber-leBytes, bytes-append, bytes-number}
 use Rattle.slices.specs.Text.{allAscii, AllBytes}
 use Rattle.slices.proofs.Laws.AsciiLaws.{bytes-ascii, append-ascii}
-use Rattle.store_table.specs.Stores.{Entry, entriesFrom, entriesIn, sum, allAtMost, wellMade, Laid, countStart, totalStart, modesStart, lengthsStart, namesStart}
+use Rattle.store_table.specs.Stores.{Entry, entriesFrom, entriesIn, sum, allAtMost, wellMade, TableInBounds, countStart, totalStart, modesStart, lengthsStart, namesStart}
 use Rattle.store_table.proofs.Laws.StoresLaws.{made-names, well-made-laid}
 use Rattle.store_table.specs.TableBytes.{modes, lengths, joined, tableOf}
 
@@ -123,5 +123,5 @@ module _ (most : ℕ) (es : List Entry) (low : most ≤ 255) (few : length es �
   table-of = (table-bytes, well-made, entries-in)
 
   -- its names lie within it
-  pub table-laid : Laid (tableOf es)
+  pub table-laid : TableInBounds (tableOf es)
   table-laid = well-made-laid most (tableOf es) well-made

@@ -6,7 +6,7 @@ use native.Mathlib.Numerals.{add-one}
 use native.Mathlib.Omega.{arith}
 use lib.ListN.{length, take, drop, getD, length-drop}
 use lib.Seq.{length-take-le, take-all, drop-nil, drop-cons, drop-drop}
-use Rattle.store_table.specs.Stores.{modesStart, lengthsStart, namesStart, Entry, entriesFrom, entriesIn, countIn, modesIn, lengthsIn, nameBytesIn, sum, Laid}
+use Rattle.store_table.specs.Stores.{modesStart, lengthsStart, namesStart, Entry, entriesFrom, entriesIn, countIn, modesIn, lengthsIn, nameBytesIn, sum, TableInBounds}
 use Rattle.store_table.proofs.Laws.PartLaws.{part-get, part-at, sum-on}
 use Rattle.store_table.specs.Inner.Index.{Standing, EntryAt, lengthAt}
 
@@ -19,15 +19,15 @@ length-from n (m ∷ ms) (l ∷ ls) bs p q =
     let e = length-from (length ms) ms ls (drop l bs) refl (omega arith) in
     omega arith
 
-pub length-entries : (s : List ℕ) → Laid s → length (entriesIn s) ≡ countIn s
+pub length-entries : (s : List ℕ) → TableInBounds s → length (entriesIn s) ≡ countIn s
 unfolding entriesIn
 length-entries s h = length-from (countIn s) (modesIn s) (lengthsIn s) _ (length-take-le _ _ (simp length-drop (omega arith))) (length-take-le _ _ (simp length-drop (omega arith)))
 
-pub entries-all : (s : List ℕ) (count : ℕ) → Laid s → count ≡ countIn s → take count (entriesIn s) ≡ entriesIn s
+pub entries-all : (s : List ℕ) (count : ℕ) → TableInBounds s → count ≡ countIn s → take count (entriesIn s) ≡ entriesIn s
 entries-all s count h e = take-all count (entriesIn s) (omega (arith, length-entries s h))
 
 -- there is an entry at each index below the count, and its mode is the byte of that index among the modes
-pub entry-there : (s : List ℕ) (k : ℕ) → Laid s → k < countIn s → (x : Entry) × EntryAt (entriesIn s) k x
+pub entry-there : (s : List ℕ) (k : ℕ) → TableInBounds s → k < countIn s → (x : Entry) × EntryAt (entriesIn s) k x
 entry-there s k h lt =
     let nameless : Entry = record { mode = 0; name = [] } in
     (getD (entriesIn s) k nameless, drop-cons (entriesIn s) k nameless (omega (arith, length-entries s h)) ∙ rw add-one)
@@ -39,15 +39,15 @@ mode-from (m ∷ ms) [] bs k e = absurd (let z : _≡_ {A = ℕ} 0 1 = cc (drop-
 mode-from (m ∷ ms) (l ∷ ls) bs zero e = cc
 mode-from (m ∷ ms) (l ∷ ls) bs (suc k) e = mode-from ms ls (drop l bs) k e
 
-pub mode-of : (s : List ℕ) (k : ℕ) {x : Entry} → Laid s → k < countIn s → EntryAt (entriesIn s) k x → getD s (modesStart + k) 0 ≡ x .mode
+pub mode-of : (s : List ℕ) (k : ℕ) {x : Entry} → TableInBounds s → k < countIn s → EntryAt (entriesIn s) k x → getD s (modesStart + k) 0 ≡ x .mode
 unfolding entriesIn
 mode-of s k h lt e = sym (part-get s modesStart (countIn s) k (omega arith) lt) ∙ mode-from (modesIn s) (lengthsIn s) (nameBytesIn s) k e
 
 -- the length of its name is the byte of that index among the lengths
-pub length-of : (s : List ℕ) {count : ℕ} (k : ℕ) → Laid s → count ≡ countIn s → k < count → getD s (lengthsStart count + k) 0 ≡ lengthAt s k
+pub length-of : (s : List ℕ) {count : ℕ} (k : ℕ) → TableInBounds s → count ≡ countIn s → k < count → getD s (lengthsStart count + k) 0 ≡ lengthAt s k
 length-of s k h e lt = rw e (sym (part-get s (lengthsStart (countIn s)) (countIn s) k (omega arith) (omega arith)))
 
-pub standing-start : (s : List ℕ) (count : ℕ) → Laid s → count ≡ countIn s → Standing s count 0 (namesStart count)
+pub standing-start : (s : List ℕ) (count : ℕ) → TableInBounds s → count ≡ countIn s → Standing s count 0 (namesStart count)
 unfolding entriesIn
 standing-start s count h e = record { laid = h; counted = e; fills = omega (arith, h .names); rest = rw e }
 

@@ -25,13 +25,13 @@ loop-holds c = (omega arith, refl)
 returns-2 : tie.Need-returns-2 Inv-loop μ-loop
 returns-2 c =
     let l = c .before .before .before .before .loop in
-    sym (same-not (λ s. leAt s (l .i) 8) (λ e. c .if2 .taken (c .before .before .le8 .ensures ∙ e ∙ sym (c .before .le82 .ensures))))
+    sym (same-not (λ s. leAt s (l .i) 8) (λ e. c .if2 .taken (c .before .before .read-u64 .ensures ∙ e ∙ sym (c .before .read-u642 .ensures))))
 
 loop-again : tie.Need-loop-again Inv-loop μ-loop
 loop-again c =
     let l = c .before .before .before .before in
     let s = l .before .before in
-    let e = sym (c .before .before .le8 .ensures) ∙ c .if2 .left ∙ c .before .le82 .ensures in
+    let e = sym (c .before .before .read-u64 .ensures) ∙ c .if2 .left ∙ c .before .read-u642 .ensures in
     (omega arith, sym (same-number (l .loop .i) 8 _ _ (λ j. omega (arith, s .before .shared-slice-known .given j)) (λ j. omega (arith, s .shared-slice-known2 .given j)) (omega arith) (omega arith) e) ∙ l .loop .inv .1)
 
 returns-3 : tie.Need-returns-3 Inv-loop μ-loop
@@ -46,8 +46,8 @@ same-name-spec =
     returns
     loop-holds
     (λ c. search needs)  -- add-loop
-    (λ c κs. search needs)  -- le8-requires
-    (λ c κs. search needs)  -- le8-requires-2
+    (λ c κs. search needs)  -- read-u64-requires
+    (λ c κs. search needs)  -- read-u64-requires-2
     returns-2
     (λ c. search needs)  -- add-i
     (λ c. search needs)  -- loop-less

@@ -34,9 +34,9 @@ sum-from-spec =
     Inv-loop
     μ-loop
     (λ c. omega arith)  -- loop-holds
-    (λ c. omega arith)  -- add-wide
-    (λ c. omega arith)  -- shared-slice-read-wide
-    (λ c κs. search needs)  -- wide-requires
+    (λ c. omega arith)  -- add-to-usize
+    (λ c. omega arith)  -- shared-slice-read-to-usize
+    (λ c κs. search needs)  -- to-usize-requires
     (λ c. omega arith)  -- add-total
     (λ c. omega arith)  -- add-k
     (λ c. omega arith)  -- loop-less

@@ -8,7 +8,7 @@ use lib.Dec.{leb}
 use lib.ListN.{length, getD, take, drop}
 use Rattle.little_endian.specs.Bytes.{leAt}
 use Rattle.store_table.specs.Names.{sameName, has}
-use Rattle.store_table.specs.Stores.{Entry, entriesFrom, countIn, modesIn, lengthsIn, entriesIn, sum, allNames, Laid}
+use Rattle.store_table.specs.Stores.{Entry, entriesFrom, countIn, modesIn, lengthsIn, entriesIn, sum, allNames, TableInBounds}
 use Rattle.store_table.specs.declared.Found.{Found}
 use Rattle.store_table.specs.declared.Found.the-variants.{No, At}
 
@@ -29,7 +29,7 @@ hashOf w = (keyOf w / 4294967296 + keyOf w % 4294967296) * 1640531527 / 16777216
 -- where a walk stands after k entries: the next name begins at `at`, the names that are left lie within the bytes, and the
 -- entries that are left are cut from there
 pub record Standing (s : List ℕ) (count k at : ℕ) : Type 0 where
-  pub laid : Laid s
+  pub laid : TableInBounds s
   pub counted : count ≡ countIn s
   pub fills : at + sum (drop k (lengthsIn s)) ≤ length s
   pub rest : drop k (entriesIn s) ≡ entriesFrom (drop k (modesIn s)) (drop k (lengthsIn s)) (drop at s)

@@ -20,7 +20,7 @@ use Rattle.tokens.specs.declared.Token.the-variants.{End, Open, Close, C
 use Rattle.tokens.specs.declared.Next.{Next}
 use Rattle.tokens.specs.declared.Next.the-variants.{Off, To}
 use Rattle.tokens.specs.declared.Scanned.{Scanned}
-use Rattle.tokens.specs.Token.{doubled, quotedTo, quotedAt, bareTo, bareAt, tokenOf, startAt, tokenAt, nextOf, onward, tokensBy, tokensFrom, unless, lastOf, scanOf}
+use Rattle.tokens.specs.Token.{doubled, quotedTo, quotedAt, unquotedTo, unquotedAt, tokenOf, startAt, tokenAt, nextOf, onward, tokensBy, tokensFrom, unless, lastOf, scanOf}
 use Rattle.tokens.specs.Inner.Bounds.{Lexed}
 
 -- ---- the token at a position, where the blanks before it end at p
@@ -54,8 +54,8 @@ module _ (s : List ℕ) (at p : ℕ) (from : at ≤ p) (in-text : p < length s) 
       (λ q. omega (arith, ltb-true (runEnd (other m) s (p + 1)) (length s) q, end-ge (other m) s (p + 1)))
       (λ _. omega arith)
 
-  bare : classOf (getD s p 0) ≡ word → Lexed (length s) at (bareAt s p)
-  unfolding bareAt bareTo
+  bare : classOf (getD s p 0) ≡ word → Lexed (length s) at (unquotedAt s p)
+  unfolding unquotedAt unquotedTo
   bare q =
       let on = end-on (ofClass word) s p in-text (of-class (getD s p 0) (sym q) refl) in
       let ge = end-ge (ofClass word) s (p + 1) in

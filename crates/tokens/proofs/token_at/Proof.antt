@@ -62,7 +62,7 @@ returns-9 c = c .quoted-at .ensures ∙ sym (here (c .before .before) (c .before
 
 returns-10 : tie.Need-returns-10
 unfolding tokenOf
-returns-10 c = c .bare-at .ensures ∙ sym (here (c .before .before) (c .before .match .keys7))
+returns-10 c = c .unquoted-at .ensures ∙ sym (here (c .before .before) (c .before .match .keys7))
 
 returns-11 : tie.Need-returns-11
 unfolding tokenOf
@@ -100,7 +100,7 @@ token-at-spec =
     returns-3
     (λ c κs. search needs)  -- half-sign-requires-2
     (λ c κs. search needs)  -- quoted-at-requires
-    (λ c κs. search needs)  -- bare-at-requires
+    (λ c κs. search needs)  -- unquoted-at-requires
     returns-4
     returns-5
     returns-6

@@ -1,4 +1,4 @@
--- What the functions that read tokens promise each other: what stands behind a sign, and where the numbers of a token lie. Assumes nothing.
+-- What the functions that read tokens promise each other: what stands nextOfClass a sign, and where the numbers of a token lie. Assumes nothing.
 use Prim.Native.Nat.{ℕ, _+_, _≤_, _<_}
 use mathlib.Core.Path.{_≡_}
 use mathlib.Core.Bool.{cond}
@@ -10,15 +10,15 @@ use Rattle.tokens.specs.declared.Next.{Next}
 use Rattle.tokens.specs.declared.Next.the-variants.{Off, To}
 
 -- where the text goes on after a token, if it begins with a byte of this class and is no word: a bracket, a comma or a sign
-unfoldable pub behind : ℕ → Token → Next
-behind k (End p) = Off
-behind k (Open p n) = cond (eqb k openBracket) (To n) Off
-behind k (Close p n) = cond (eqb k closeBracket) (To n) Off
-behind k (Comma p n) = cond (eqb k comma) (To n) Off
-behind k (And p n) = cond (eqb k ampersand) (To n) Off
-behind k (Or p n) = cond (eqb k bar) (To n) Off
-behind k (Word p a b q n) = Off
-behind k (Fault f) = Off
+unfoldable pub nextOfClass : ℕ → Token → Next
+nextOfClass k (End p) = Off
+nextOfClass k (Open p n) = cond (eqb k openBracket) (To n) Off
+nextOfClass k (Close p n) = cond (eqb k closeBracket) (To n) Off
+nextOfClass k (Comma p n) = cond (eqb k comma) (To n) Off
+nextOfClass k (And p n) = cond (eqb k ampersand) (To n) Off
+nextOfClass k (Or p n) = cond (eqb k bar) (To n) Off
+nextOfClass k (Word p a b q n) = Off
+nextOfClass k (Fault f) = Off
 
 -- what the numbers of a token at or after `at`, in a text of `len` bytes, keep to; a fault is one of 4 to 6
 abbrev pub Lexed : ℕ → ℕ → Token → Type 0

@@ -14,7 +14,7 @@ use Rattle.image.specs.Layout.{nodeCountIn}
 use Rattle.image.specs.Encode.{encode}
 use Rattle.image.specs.Decode.{isSome, cellAt, decode}
 use Rattle.image.proofs.Laws.FitLaws.{isSome-true, isSome-false}
-use Rattle.image.specs.Inner.Standing.{Stands}
+use Rattle.image.specs.Inner.Standing.{EncodedAt}
 use Rattle.grammar.specs.Reading.{Read, rule, refused, readOf}
 use Rattle.grammar.proofs.Laws.FitsLaws.{read-decodes}
 use Rattle.read.specs.Outcome.{Outcome, outcome, readingOf}
@@ -24,9 +24,9 @@ use Rattle.store_table.specs.Stores.{Entry, isTable, countIn, entriesIn, writeO
 use Rattle.store_table.proofs.Laws.StoresLaws.{well-made-laid}
 use Rattle.store_table.proofs.Laws.WalkLaws.{length-entries}
 use Rattle.store_table.specs.declared.Twin.the-variants.{No as Lone, At as Twinned}
-use Rattle.evaluate.specs.Evict.{worldOf, evict}
+use Rattle.evaluate.specs.Evict.{envOf, evict}
 use Rattle.image.proofs.Laws.InsideLaws.{decode-whole}
-use Rattle.verdict.specs.Check.{oldest, bare, archived, verdict, unknownIn, checkStores, checkRule, checkOf}
+use Rattle.verdict.specs.Check.{oldest, evictsUnconfirmed, evictsOnArchive, verdict, unknownIn, checkStores, checkRule, checkOf}
 use Rattle.verdict.specs.declared.Unknown.{Unknown}
 use Rattle.verdict.specs.declared.Unknown.the-variants.{No, At}
 use Rattle.verdict.specs.declared.Verdict.{Verdict}
@@ -34,10 +34,10 @@ use Rattle.verdict.specs.declared.Verdict.the-variants.{Pass, Refused}
 use Rattle.verdict.specs.Inner.Grades.{WithStores}
 
 -- where 21 is not due, 22 is tested without a look at whether there are write-only stores
-pub archived-by : (r : Rule) (es : List Entry) → bare r es ≡ false → archived r es ≡ evict r (worldOf es oldest (writeOnlyNames es))
+pub archived-by : (r : Rule) (es : List Entry) → evictsUnconfirmed r es ≡ false → evictsOnArchive r es ≡ evict r (envOf es oldest (writeOnlyNames es))
 archived-by r es e = go (writeOnlyNames es)
   where
-    go : (ns : List (List ℕ)) → (leb 1 (length ns) && evict r (worldOf es oldest ns)) ≡ evict r (worldOf es oldest ns)
+    go : (ns : List (List ℕ)) → (leb 1 (length ns) && evict r (envOf es oldest ns)) ≡ evict r (envOf es oldest ns)
     go [] = sym e
     go (n ∷ ns) = rw (le-leb 1 (length (n ∷ ns)) (omega arith))
 
@@ -66,10 +66,10 @@ module _ (r : Rule) (s : List ℕ) where
 
   -- 20: there are stores, and u is what a look for unknown names found
   module _ (h : WithStores s) {u : Unknown} (found : u ≡ unknownIn (entriesIn s) r 0) where
-    pub by-tests : verdict u (bare r (entriesIn s)) (archived r (entriesIn s)) ≡ checkRule r s
+    pub by-tests : verdict u (evictsUnconfirmed r (entriesIn s)) (evictsOnArchive r (entriesIn s)) ≡ checkRule r s
     by-tests = rw found (go (entriesIn s) (length-entries s (well-made-laid _ s (h .table)))) ∙ by-stores (h .table) (h .lone)
       where
-        go : (es : List Entry) → length es ≡ countIn s → verdict (unknownIn es r 0) (bare r es) (archived r es) ≡ checkStores r es
+        go : (es : List Entry) → length es ≡ countIn s → verdict (unknownIn es r 0) (evictsUnconfirmed r es) (evictsOnArchive r es) ≡ checkStores r es
         go [] q = absurd (h .stored (sym q))
         go (x ∷ es) q = refl
 
@@ -77,12 +77,12 @@ module _ (r : Rule) (s : List ℕ) where
     refused-20 e = rw e at by-tests
 
     -- 21: there is none, and b is what the rule says with nothing confirmed
-    module _ (known : u ≡ No) {b : Bool} (says : b ≡ bare r (entriesIn s)) where
+    module _ (known : u ≡ No) {b : Bool} (says : b ≡ evictsUnconfirmed r (entriesIn s)) where
       pub refused-21 : b ≡ true → Refused (refusal unconfirmed 0) ≡ checkRule r s
       refused-21 e = rw (known, ← says, e) at by-tests
 
       -- 22 or a pass: b is keep, and a is what the rule says with the write-only stores confirmed
-      module _ (keeps : b ≡ false) {a : Bool} (also : a ≡ evict r (worldOf (entriesIn s) oldest (writeOnlyNames (entriesIn s)))) where
+      module _ (keeps : b ≡ false) {a : Bool} (also : a ≡ evict r (envOf (entriesIn s) oldest (writeOnlyNames (entriesIn s)))) where
         by-archived : verdict No false a ≡ checkRule r s
         by-archived = rw (known, archived-by r (entriesIn s) (sym says ∙ keeps), ← says, keeps, ← also) at by-tests
 
@@ -101,7 +101,7 @@ module _ (i : List ℕ) where
   -- n is what its first two bytes say
   module _ {n : ℕ} (image : isSome (decode i) ≡ true) (p : n ≡ nodeCountIn i) where
     -- v is the verdict on whatever rule has all n nodes
-    pub checks-image : {v : Verdict} (s : List ℕ) → ((r : Rule) → size r ≡ n → Stands r (cellAt i n) 0 → v ≡ checkRule r s) → v ≡ checkOf i s
+    pub checks-image : {v : Verdict} (s : List ℕ) → ((r : Rule) → size r ≡ n → EncodedAt r (cellAt i n) 0 → v ≡ checkRule r s) → v ≡ checkOf i s
     unfolding checkOf
     checks-image s h =
         let (r, e) = isSome-true (decode i) image in

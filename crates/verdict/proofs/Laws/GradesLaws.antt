@@ -18,14 +18,14 @@ use Rattle.store_table.specs.Stores.{Entry, readOnly, writeOnly, isReadable, wr
 use Rattle.store_table.proofs.Laws.MemberLaws.{has-mem, mem-has}
 use Rattle.store_table.proofs.Laws.EntryLaws.{write-only-entry, entry-write-only, one-of-name, ready-or-none}
 use Rattle.store_table.specs.declared.Twin.the-variants.{No as Lone}
-use Rattle.evaluate.specs.Evict.{World, worldOf, leafSays}
+use Rattle.evaluate.specs.Evict.{Env, envOf, leafSays}
 use Rattle.evaluate.proofs.Laws.MeaningLaws.{says-named, says-older, says-readable}
 use Rattle.evaluate.proofs.Laws.MonotoneLaws.{both-ways}
 use Rattle.verdict.specs.Check.{oldest}
 use Rattle.verdict.specs.Inner.Grades.{nameGrade, Graded, GradedUpTo}
 
 -- a leaf that says the same of both
-same-graded : {l : Leaf} {es : List Entry} (b : Bool) → b ≡ leafSays l (worldOf es oldest []) → b ≡ leafSays l (worldOf es oldest (writeOnlyNames es)) → Graded l es (cond b 2 0)
+same-graded : {l : Leaf} {es : List Entry} (b : Bool) → b ≡ leafSays l (envOf es oldest []) → b ≡ leafSays l (envOf es oldest (writeOnlyNames es)) → Graded l es (cond b 2 0)
 same-graded true p q = record { bare = p; archived = q }
 same-graded false p q = record { bare = p; archived = q }
 
@@ -68,22 +68,22 @@ module _ (es : List Entry) (lone : twinOf es ≡ Lone) where
   -- ---- the grade of a leaf, by its kind
   module _ (s : List ℕ) (n : ℕ) {k : ℕ} (a : ℕ) (l : Leaf) (e : meaning s n k a ≡ aLeaf l) where
     pub older-graded : {b : Bool} → k ≡ olderThanKind → leb a oldest ≡ b → Graded l es (cond b 2 0)
-    older-graded {b} h p = same-graded b (sym p ∙ says-older s n a (worldOf es oldest []) l e h) (sym p ∙ says-older s n a (worldOf es oldest (writeOnlyNames es)) l e h)
+    older-graded {b} h p = same-graded b (sym p ∙ says-older s n a (envOf es oldest []) l e h) (sym p ∙ says-older s n a (envOf es oldest (writeOnlyNames es)) l e h)
 
     pub readable-graded : {b : Bool} → k ≡ readableKind → leb a 0 ≡ b → Graded l es (cond b 2 0)
-    readable-graded {b} h p = same-graded b (says (worldOf es oldest []) ready-bare) (says (worldOf es oldest (writeOnlyNames es)) ready-archived)
+    readable-graded {b} h p = same-graded b (says (envOf es oldest []) ready-bare) (says (envOf es oldest (writeOnlyNames es)) ready-archived)
       where
-        says : (v : World) → v .ready ≡ 0 → b ≡ leafSays l v
+        says : (v : Env) → v .ready ≡ 0 → b ≡ leafSays l v
         says v q = sym p ∙ ap (leb a) (sym q) ∙ says-readable s n a v l e h
 
     -- a name, which is this store's
     pub name-graded : {w : List ℕ} (x : Entry) → k ≡ namedKind → w ≡ nameOf s n a → List·Memᴰ x es → w ≡ x .name → Graded l es (nameGrade (x .mode))
-    name-graded {w} x h named-as m p = by (eqb (x .mode) writeOnly) (says-named s n a (worldOf es oldest (writeOnlyNames es)) l e h named-as (rw p (sym (write-only-has x m))))
+    name-graded {w} x h named-as m p = by (eqb (x .mode) writeOnly) (says-named s n a (envOf es oldest (writeOnlyNames es)) l e h named-as (rw p (sym (write-only-has x m))))
       where
-        keeps : false ≡ leafSays l (worldOf es oldest [])
-        keeps = says-named s n a (worldOf es oldest []) l e h named-as (sym (none-has w))
+        keeps : false ≡ leafSays l (envOf es oldest [])
+        keeps = says-named s n a (envOf es oldest []) l e h named-as (sym (none-has w))
 
-        by : (b : Bool) → b ≡ leafSays l (worldOf es oldest (writeOnlyNames es)) → Graded l es (cond b 1 0)
+        by : (b : Bool) → b ≡ leafSays l (envOf es oldest (writeOnlyNames es)) → Graded l es (cond b 1 0)
         by true q = record { bare = keeps; archived = q }
         by false q = record { bare = keeps; archived = q }
 

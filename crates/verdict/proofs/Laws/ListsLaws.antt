@@ -15,7 +15,7 @@ use Rattle.store_table.proofs.Laws.MemberLaws.{has-mem, mem-has}
 use Rattle.store_table.proofs.Laws.EntryLaws.{entry-name, name-entry, entry-named, write-only-entry, entry-write-only, write-only-few}
 use Rattle.store_table.specs.Inner.ListBytes.{listOf}
 use Rattle.store_table.proofs.Laws.ListBytesLaws.{list-of}
-use Rattle.evaluate.specs.Evict.{worldOf, evict}
+use Rattle.evaluate.specs.Evict.{envOf, evict}
 use Rattle.decide.specs.Decide.{listNames}
 use Rattle.evaluate.proofs.Laws.MonotoneLaws.{as-set, both-ways}
 use Rattle.verdict.specs.Guarantee.{Table, Confirmed, Named, Nothing, WriteOnly, JustWriteOnly}
@@ -37,11 +37,11 @@ module _ (s w : List ℕ) where
 
 -- ---- of a list with nothing, and of one with just the write-only stores, only that counts
 module _ (r : Rule) (s : List ℕ) (age : ℕ) (l : List ℕ) where
-  pub nothing-same : Nothing l → evict r (worldOf (entriesIn s) age (listNames l)) ≡ evict r (worldOf (entriesIn s) age [])
+  pub nothing-same : Nothing l → evict r (envOf (entriesIn s) age (listNames l)) ≡ evict r (envOf (entriesIn s) age [])
   unfolding has
   nothing-same n = as-set r (entriesIn s) age (listNames l) [] (λ w. both-ways (λ h. absurd (n .none w (has-named (n .list) w h))) (λ h. absurd (false≢true h)))
 
-  pub write-only-same : JustWriteOnly s l → evict r (worldOf (entriesIn s) age (listNames l)) ≡ evict r (worldOf (entriesIn s) age (writeOnlyNames (entriesIn s)))
+  pub write-only-same : JustWriteOnly s l → evict r (envOf (entriesIn s) age (listNames l)) ≡ evict r (envOf (entriesIn s) age (writeOnlyNames (entriesIn s)))
   write-only-same j = as-set r (entriesIn s) age (listNames l) (writeOnlyNames (entriesIn s)) (λ w. both-ways
       (λ h. mem-has (write-only-mem s w (j .just w .0 (has-named (j .list) w h))))
       (λ h. named-has (j .list) w (j .just w .1 (mem-write-only s w (has-mem w (writeOnlyNames (entriesIn s)) h)))))

@@ -18,7 +18,7 @@ use Rattle.store_table.proofs.Laws.TwinLaws.{twin-index}
 use Rattle.store_table.specs.declared.Twin.{Twin}
 use Rattle.store_table.specs.declared.Twin.the-variants.{No as Lone, At as Twinned}
 use Rattle.image.proofs.Laws.InsideLaws.{decode-whole}
-use Rattle.verdict.specs.Check.{isUnknown, first, unknownIn, unknownAll, bare, archived, verdict, checkRule, checkDecoded, checkOf, judgeRead, judgeOf}
+use Rattle.verdict.specs.Check.{isUnknown, first, unknownIn, unknownAll, evictsUnconfirmed, evictsOnArchive, verdict, checkRule, checkDecoded, checkOf, judgeRead, judgeOf}
 use Rattle.verdict.proofs.Laws.CheckLaws.{refused-17, refused-18, passed-none, by-tests}
 use Rattle.verdict.specs.declared.Unknown.{Unknown}
 use Rattle.verdict.specs.declared.Unknown.the-variants.{No, At}
@@ -73,7 +73,7 @@ module _ (r : Rule) (s : List ℕ) (f : Refusal) (due : checkRule r s ≡ Refuse
   by-count : isTable s ≡ true → twinOf (entriesIn s) ≡ Lone → (n : ℕ) → countIn s ≡ n → Placed (size r) f
   by-count table lone zero e = absurd (let z : _≡_ {A = ℕ} 0 1 = cc (passed-none r s table lone e) in omega arith)
   by-count table lone (suc n) e =
-      by-verdict (unknownIn (entriesIn s) r 0) (bare r (entriesIn s)) (archived r (entriesIn s))
+      by-verdict (unknownIn (entriesIn s) r 0) (evictsUnconfirmed r (entriesIn s)) (evictsOnArchive r (entriesIn s))
       (wider _ _ (unknownIn (entriesIn s) r 0) (omega arith) (unknown-below (entriesIn s) r 0))
       (by-tests r s (record { table = table; lone = lone; stored = λ z. omega arith }) refl)
 

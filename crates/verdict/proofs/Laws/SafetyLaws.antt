@@ -15,10 +15,10 @@ use Rattle.store_table.proofs.Laws.MemberLaws.{has-mem, mem-has}
 use Rattle.store_table.specs.declared.Twin.the-variants.{No as Lone}
 use Rattle.store_table.proofs.Laws.DistinctLaws.{no-twin-distinct}
 use Rattle.store_table.proofs.Laws.EntryLaws.{entry-mode, name-entry, entry-named, OneReady, NoneReady, ready-or-none}
-use Rattle.evaluate.specs.Evict.{worldOf, evict}
+use Rattle.evaluate.specs.Evict.{envOf, evict}
 use Rattle.decide.specs.Decide.{listNames}
 use Rattle.evaluate.proofs.Laws.MonotoneLaws.{evict-up}
-use Rattle.verdict.specs.Check.{unknownIn, oldest, bare, archived, verdict, checkRule}
+use Rattle.verdict.specs.Check.{unknownIn, oldest, evictsUnconfirmed, evictsOnArchive, verdict, checkRule}
 use Rattle.verdict.specs.Guarantee.{Table, Named, Nothing, JustWriteOnly, Known, Evicts, ReadableOn, Safe, Guarantee}
 use Rattle.verdict.proofs.Laws.CheckLaws.{archived-by, by-tests}
 use Rattle.verdict.proofs.Laws.GradesLaws.{write-only-unready}
@@ -71,7 +71,7 @@ module _ {s : List ℕ} (t : Table s) (r : Rule) where
   no-twin = no-twin-distinct (entriesIn s) .1 (t .distinct)
 
   -- check's answer is the verdict of the three tests
-  check-verdict : checkRule r s ≡ verdict (unknownIn (entriesIn s) r 0) (bare r (entriesIn s)) (archived r (entriesIn s))
+  check-verdict : checkRule r s ≡ verdict (unknownIn (entriesIn s) r 0) (evictsUnconfirmed r (entriesIn s)) (evictsOnArchive r (entriesIn s))
   check-verdict = sym (by-tests r s (record { table = t .made; lone = no-twin; stored = λ e. omega (arith, t .stored) }) refl)
 
   known-no : Known r s → unknownIn (entriesIn s) r 0 ≡ No
@@ -94,10 +94,10 @@ module _ {s : List ℕ} (t : Table s) (r : Rule) where
         by true q = absurd (true≢false (sym h ∙ (rw p at (none .1 e m q))))
         by false q = mem-has (write-only-mem s w (e, m, unreadable-mode (entry-mode _ s (t .made) e m) q, p))
 
-    reaches : NoneReady (entriesIn s) ns → evict r (worldOf (entriesIn s) age ns) ≡ true → evict r (worldOf (entriesIn s) oldest (writeOnlyNames (entriesIn s))) ≡ true
-    reaches none = evict-up (worldOf (entriesIn s) age ns) (worldOf (entriesIn s) oldest (writeOnlyNames (entriesIn s))) young (omega (arith, none .0)) r (λ w m. kept none w (known w m))
+    reaches : NoneReady (entriesIn s) ns → evict r (envOf (entriesIn s) age ns) ≡ true → evict r (envOf (entriesIn s) oldest (writeOnlyNames (entriesIn s))) ≡ true
+    reaches none = evict-up (envOf (entriesIn s) age ns) (envOf (entriesIn s) oldest (writeOnlyNames (entriesIn s))) young (omega (arith, none .0)) r (λ w m. kept none w (known w m))
 
-  to-safe : Known r s → evict r (worldOf (entriesIn s) oldest (writeOnlyNames (entriesIn s))) ≡ false → Safe r s
+  to-safe : Known r s → evict r (envOf (entriesIn s) oldest (writeOnlyNames (entriesIn s))) ≡ false → Safe r s
   to-safe known keep age young l c e = ⊎-elim on off (ready-or-none (entriesIn s) (listNames l))
     where
       on : OneReady (entriesIn s) (listNames l) → ReadableOn s l
@@ -107,20 +107,20 @@ module _ {s : List ℕ} (t : Table s) (r : Rule) where
       off none = absurd (true≢false (sym (reaches known young (listNames l) none e) ∙ keep))
 
   -- a safe rule keeps with nothing confirmed, and with just the write-only stores
-  safe-bare : Safe r s → bare r (entriesIn s) ≡ false
-  safe-bare safe = by (bare r (entriesIn s)) refl
+  safe-bare : Safe r s → evictsUnconfirmed r (entriesIn s) ≡ false
+  safe-bare safe = by (evictsUnconfirmed r (entriesIn s)) refl
     where
-      by : (b : Bool) → bare r (entriesIn s) ≡ b → b ≡ false
+      by : (b : Bool) → evictsUnconfirmed r (entriesIn s) ≡ b → b ≡ false
       by true e =
           let (l, n) = nothing-is in
           let (x, m, q, on) = safe oldest (omega arith) l (n .list) (nothing-same r s oldest l n ∙ e) in
           absurd (n .none (x .name) on)
       by false e = refl
 
-  safe-archive : Safe r s → evict r (worldOf (entriesIn s) oldest (writeOnlyNames (entriesIn s))) ≡ false
-  safe-archive safe = by (evict r (worldOf (entriesIn s) oldest (writeOnlyNames (entriesIn s)))) refl
+  safe-archive : Safe r s → evict r (envOf (entriesIn s) oldest (writeOnlyNames (entriesIn s))) ≡ false
+  safe-archive safe = by (evict r (envOf (entriesIn s) oldest (writeOnlyNames (entriesIn s)))) refl
     where
-      by : (b : Bool) → evict r (worldOf (entriesIn s) oldest (writeOnlyNames (entriesIn s))) ≡ b → b ≡ false
+      by : (b : Bool) → evict r (envOf (entriesIn s) oldest (writeOnlyNames (entriesIn s))) ≡ b → b ≡ false
       by true e =
           let (l, j) = write-only-is s t in
           let (x, m, q, on) = safe oldest (omega arith) l (j .list) (write-only-same r s oldest l j ∙ e) in
@@ -131,44 +131,44 @@ module _ {s : List ℕ} (t : Table s) (r : Rule) where
   pub rule-passes : (checkRule r s ≡ Pass) ↔ (Known r s × Safe r s)
   rule-passes = rw check-verdict (to, from)
     where
-      to : verdict (unknownIn (entriesIn s) r 0) (bare r (entriesIn s)) (archived r (entriesIn s)) ≡ Pass → Known r s × Safe r s
+      to : verdict (unknownIn (entriesIn s) r 0) (evictsUnconfirmed r (entriesIn s)) (evictsOnArchive r (entriesIn s)) ≡ Pass → Known r s × Safe r s
       to e =
-          let (u, b, a) = verdict-pass (unknownIn (entriesIn s) r 0) (bare r (entriesIn s)) (archived r (entriesIn s)) e in
+          let (u, b, a) = verdict-pass (unknownIn (entriesIn s) r 0) (evictsUnconfirmed r (entriesIn s)) (evictsOnArchive r (entriesIn s)) e in
           let k = no-known u in
           (k, to-safe k (sym (archived-by r (entriesIn s) b) ∙ a))
 
-      from : Known r s × Safe r s → verdict (unknownIn (entriesIn s) r 0) (bare r (entriesIn s)) (archived r (entriesIn s)) ≡ Pass
+      from : Known r s × Safe r s → verdict (unknownIn (entriesIn s) r 0) (evictsUnconfirmed r (entriesIn s)) (evictsOnArchive r (entriesIn s)) ≡ Pass
       from (k, safe) =
           let b = safe-bare safe in
           rw (known-no k, archived-by r (entriesIn s) b, b, safe-archive safe)
 
   module _ (known : Known r s) where
-    check-known : checkRule r s ≡ verdict No (bare r (entriesIn s)) (archived r (entriesIn s))
+    check-known : checkRule r s ≡ verdict No (evictsUnconfirmed r (entriesIn s)) (evictsOnArchive r (entriesIn s))
     check-known = check-verdict ∙ rw (known-no known)
 
     pub rule-answers : (checkRule r s ≡ Pass) ⊎ (checkRule r s ≡ Refused (refusal unconfirmed 0)) ⊎ (checkRule r s ≡ Refused (refusal archiveOnly 0))
-    rule-answers = rw check-known (verdict-known (bare r (entriesIn s)) (archived r (entriesIn s)))
+    rule-answers = rw check-known (verdict-known (evictsUnconfirmed r (entriesIn s)) (evictsOnArchive r (entriesIn s)))
 
     pub rule-21 : (l : List ℕ) → Nothing l → (checkRule r s ≡ Refused (refusal unconfirmed 0)) ↔ Evicts r s oldest l
-    rule-21 l n = rw (check-known, nothing-same r s oldest l n) (verdict-21 (bare r (entriesIn s)) (archived r (entriesIn s)))
+    rule-21 l n = rw (check-known, nothing-same r s oldest l n) (verdict-21 (evictsUnconfirmed r (entriesIn s)) (evictsOnArchive r (entriesIn s)))
 
     pub rule-22 : (l k : List ℕ) → Nothing l → JustWriteOnly s k → (checkRule r s ≡ Refused (refusal archiveOnly 0)) ↔ ((Evicts r s oldest l → ⊥) × Evicts r s oldest k)
     rule-22 l k n j = rw (check-known, nothing-same r s oldest l n, write-only-same r s oldest k j) (to, from)
       where
-        to : verdict No (bare r (entriesIn s)) (archived r (entriesIn s)) ≡ Refused (refusal archiveOnly 0) → (bare r (entriesIn s) ≡ true → ⊥) × (evict r (worldOf (entriesIn s) oldest (writeOnlyNames (entriesIn s))) ≡ true)
+        to : verdict No (evictsUnconfirmed r (entriesIn s)) (evictsOnArchive r (entriesIn s)) ≡ Refused (refusal archiveOnly 0) → (evictsUnconfirmed r (entriesIn s) ≡ true → ⊥) × (evict r (envOf (entriesIn s) oldest (writeOnlyNames (entriesIn s))) ≡ true)
         to e =
-            let (b, a) = verdict-22 (bare r (entriesIn s)) (archived r (entriesIn s)) .0 e in
+            let (b, a) = verdict-22 (evictsUnconfirmed r (entriesIn s)) (evictsOnArchive r (entriesIn s)) .0 e in
             (λ d. true≢false (sym d ∙ b), sym (archived-by r (entriesIn s) b) ∙ a)
 
-        from : (bare r (entriesIn s) ≡ true → ⊥) × (evict r (worldOf (entriesIn s) oldest (writeOnlyNames (entriesIn s))) ≡ true) → verdict No (bare r (entriesIn s)) (archived r (entriesIn s)) ≡ Refused (refusal archiveOnly 0)
+        from : (evictsUnconfirmed r (entriesIn s) ≡ true → ⊥) × (evict r (envOf (entriesIn s) oldest (writeOnlyNames (entriesIn s))) ≡ true) → verdict No (evictsUnconfirmed r (entriesIn s)) (evictsOnArchive r (entriesIn s)) ≡ Refused (refusal archiveOnly 0)
         from (keeps, a) =
-            let b = false-of (bare r (entriesIn s)) keeps in
-            verdict-22 (bare r (entriesIn s)) (archived r (entriesIn s)) .1 (b, archived-by r (entriesIn s) b ∙ a)
+            let b = false-of (evictsUnconfirmed r (entriesIn s)) keeps in
+            verdict-22 (evictsUnconfirmed r (entriesIn s)) (evictsOnArchive r (entriesIn s)) .1 (b, archived-by r (entriesIn s) b ∙ a)
 
   pub rule-20 : (Known r s → ⊥) → (i : ℕ) × (checkRule r s ≡ Refused (refusal unknownStore i))
   rule-20 unknown = rw check-verdict (by (unknownIn (entriesIn s) r 0) refl)
     where
-      by : (u : Unknown) → unknownIn (entriesIn s) r 0 ≡ u → (i : ℕ) × (verdict u (bare r (entriesIn s)) (archived r (entriesIn s)) ≡ Refused (refusal unknownStore i))
+      by : (u : Unknown) → unknownIn (entriesIn s) r 0 ≡ u → (i : ℕ) × (verdict u (evictsUnconfirmed r (entriesIn s)) (evictsOnArchive r (entriesIn s)) ≡ Refused (refusal unknownStore i))
       by No e = absurd (unknown (no-known e))
       by (At i) e = (i, refl)
 

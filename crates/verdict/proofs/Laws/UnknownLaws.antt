@@ -10,7 +10,7 @@ use Rattle.rules.specs.Rule.{named, olderThan, readable, Rule, leaf, node, Rule
 use Rattle.image.specs.Kinds.{namedKind}
 use Rattle.image.specs.Layout.{nameOf}
 use Rattle.image.specs.Decode.{Node, nodeAt, Meaning, aLeaf, aJoin, nothing, meaning, Cell, cellAt}
-use Rattle.image.specs.Inner.Standing.{Stands, StandAll}
+use Rattle.image.specs.Inner.Standing.{EncodedAt, EncodedAllAt}
 use Rattle.store_table.specs.Names.{has}
 use Rattle.store_table.specs.Stores.{Entry, allNames}
 use Rattle.image.proofs.Laws.KindLaws.{no-name}
@@ -46,14 +46,14 @@ unknownUpTo stores f (suc i) = first (unknownUpTo stores f i) (unknownCell store
 -- ---- after a rule's cells the first is what was found before them, or else the rule's own
 module _ (stores : List Entry) (f : ℕ → Cell) where
   mutual
-    unfolding size Stands unknownUpTo unknownIn
+    unfolding size EncodedAt unknownUpTo unknownIn
 
-    cells-rule : (r : Rule) (s : ℕ) → Stands r f s → unknownUpTo stores f (s + size r) ≡ first (unknownUpTo stores f s) (unknownIn stores r s)
+    cells-rule : (r : Rule) (s : ℕ) → EncodedAt r f s → unknownUpTo stores f (s + size r) ≡ first (unknownUpTo stores f s) (unknownIn stores r s)
     cells-rule (leaf l) s st = rw (add-one, st .0)
     cells-rule (node j rs r) s st =
         rw (add-suc, ← add-assoc, st .2, first-none, cells-rule r (s + sizes rs) (st .1), cells-rules rs s (st .0), first-joined)
 
-    cells-rules : (rs : Rules) (s : ℕ) → StandAll rs f s → unknownUpTo stores f (s + sizes rs) ≡ first (unknownUpTo stores f s) (unknownAll stores rs s)
+    cells-rules : (rs : Rules) (s : ℕ) → EncodedAllAt rs f s → unknownUpTo stores f (s + sizes rs) ≡ first (unknownUpTo stores f s) (unknownAll stores rs s)
     cells-rules nil s st = rw (add-zero, first-none)
     cells-rules (more rs r) s st = rw (← add-assoc, cells-rule r (s + sizes rs) (st .1), cells-rules rs s (st .0), first-joined)
 
@@ -71,7 +71,7 @@ module _ (stores : List Entry) (f : ℕ → Cell) where
     found e (suc k) = rw (add-suc, found e k)
 
     -- and there are n cells, all of them a rule's
-    module _ {n : ℕ} (r : Rule) (sized : size r ≡ n) (st : Stands r f 0) where
+    module _ {n : ℕ} (r : Rule) (sized : size r ≡ n) (st : EncodedAt r f 0) where
       pub first-here : unknownCell stores (f i .what) i ≡ At i → i < n → At i ≡ unknownIn stores r 0
       unfolding unknownUpTo
       first-here e lt =

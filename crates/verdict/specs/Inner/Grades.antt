@@ -9,7 +9,7 @@ use Rattle.rules.specs.Rule.{Leaf}
 use Rattle.image.specs.Decode.{aLeaf, cellAt}
 use Rattle.store_table.specs.Stores.{Entry, writeOnly, isTable, countIn, entriesIn, writeOnlyNames, twinOf}
 use Rattle.store_table.specs.declared.Twin.the-variants.{No}
-use Rattle.evaluate.specs.Evict.{worldOf, leafSays}
+use Rattle.evaluate.specs.Evict.{envOf, leafSays}
 use Rattle.verdict.specs.Check.{oldest}
 
 -- the grade of a store's name, by the store's mode
@@ -19,8 +19,8 @@ nameGrade mode = cond (eqb mode writeOnly) 1 0
 -- a leaf of grade g says evict at the largest age: with nothing confirmed where g is 2, and with just the write-only stores
 -- confirmed where g is 1 or 2
 pub record Graded (l : Leaf) (es : List Entry) (g : ℕ) : Type 0 where
-  pub bare : leb 2 g ≡ leafSays l (worldOf es oldest [])
-  pub archived : leb 1 g ≡ leafSays l (worldOf es oldest (writeOnlyNames es))
+  pub bare : leb 2 g ≡ leafSays l (envOf es oldest [])
+  pub archived : leb 1 g ≡ leafSays l (envOf es oldest (writeOnlyNames es))
 
 -- each leaf among the first i of an image's n nodes has its grade
 abbrev pub GradedUpTo : List ℕ → ℕ → ℕ → List ℕ → List Entry → Type 0
