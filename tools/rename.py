@@ -4,7 +4,7 @@
 usage: python3 tools/rename.py LIST [ROOT]
 
 Each line of the list: `def CRATE MODULE old new` (a definition or law; MODULE as specs/Text), `type CRATE Old New`,
-`const CRATE OLD NEW`, `fn CRATE old new`, `crate old new`. A name is changed where it is declared and where it is imported
+`const CRATE OLD NEW`, `fn CRATE old new`, `file CRATE OLD NEW` (a module), `crate old new`. A name is changed where it is declared and where it is imported
 from there; in a proof also where the prover names a fact after a function that is called.
 """
 import os,re,sys,glob,subprocess
@@ -95,7 +95,8 @@ def rename_type(crate,old,new):
         if s!=o: wr(p,s); n+=1
     for p in edits():
         s=rd(p); t='\n'.join(re.sub(r'(?<![\w.])'+old+r'(?=::|\b)(?!\w)',new,l) if l.startswith(('old:','new:')) else l for l in s.split('\n'))
-        if t!=s and p[len(C):].split('/')[0]==crate: wr(p,t)
+        here=p[len(C):].split('/')[0]
+        if t!=s and (here==crate or any(re.search(r'\b'+crate+r'::(\w+::)?'+new+r'\b',rd(q)) for q in glob.glob(C+here+'/src/*.rt'))): wr(p,t)
     for p in docs():
         s=rd(p); t=s.replace('`'+old+'`','`'+new+'`')
         if t!=s: wr(p,t)
@@ -164,6 +165,20 @@ def rename_fn(crate,old,new):
         s=rd(p); t=re.sub(r'`'+crate+r'::((?:\w+::)?)'+old+r'`',lambda m:'`'+crate+'::'+m.group(1)+new+'`',s).replace('`'+crate+'/proofs/'+old+'`','`'+crate+'/proofs/'+new+'`').replace('`'+old+'`','`'+new+'`')
         if t!=s: wr(p,t)
     print(f'fn {crate}::{old} -> {new}: {n} files, callers {[(h,x) for h,_,x,_ in callers]}')
+def rename_file(crate,old,new):
+    sec,po=old.split('/',1); pn=new.split('/',1)[1]
+    os.rename(C+f'{crate}/{old}.antt',C+f'{crate}/{new}.antt')
+    lib=C+f'{crate}/{os.path.dirname(old)}.antt' if '/' in po else C+f'{crate}/{sec}/Lib.antt'
+    s=rd(lib); wr(lib,re.sub(r'^((?:pub )?mod )'+os.path.basename(old)+'$',lambda m:m.group(1)+os.path.basename(new),s,flags=re.M))
+    for p in antts()+rts()+edits():
+        s=rd(p); o=s
+        for pre in (f'Rattle.{crate}.{sec}.',f'Rattle.{crate}.{sec}.'):
+            s=re.sub(re.escape(pre+po.replace('/','.'))+r'(?![\w])',lambda m:pre+pn.replace('/','.'),s)
+        if s!=o: wr(p,s)
+    for p in docs():
+        s=rd(p); t=s.replace(f'{crate}/{old}.antt',f'{crate}/{new}.antt')
+        if t!=s: wr(p,t)
+    print(f'file {old} -> {new}')
 def rename_crate(old,new):
     os.rename(C+old,C+new)
     for p in antts()+rts():
@@ -187,4 +202,5 @@ for l in rd(LIST).split('\n'):
     elif k=='const': rename_const(*l[1:])
     elif k=='fn': rename_fn(*l[1:])
     elif k=='crate': rename_crate(*l[1:])
+    elif k=='file': rename_file(*l[1:])
     else: sys.exit('what is '+k)

@@ -5,7 +5,7 @@ ghost use lib.ListN.{length};
 ghost use Rattle.classes.specs.Class.{faults};
 ghost use Rattle.tokens.specs.Token.{tokensFrom};
 ghost use Rattle.grammar.specs.Grammar.{olderThanStart, readableStart, atLeastStart, callStart};
-ghost use Rattle.grammar.specs.Inner.Heads.{left, Begins};
+ghost use Rattle.grammar.specs.Inner.Starts.{left, Begins};
 use decimal::Parsed;
 use decimal::count::parse_count;
 use durations::duration::parse_duration;

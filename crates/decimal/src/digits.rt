@@ -19,7 +19,7 @@ pub fn digit_count(n: u64) -> usize
 }
 
 // Puts a number's digits so that they end at a position, and answers where they begin.
-pub fn put_digits(text: &mut [u8], end: usize, n: u64) -> usize
+pub fn prepend_digits(text: &mut [u8], end: usize, n: u64) -> usize
     requires { ⌜ (length (digitsOf n) ≤ end) × (end ≤ length (now text)) ⌝ }
     ensures { λ r. ⌜ WrittenAt (now (text .entry)) (now (text .exit)) r end (digitsOf n) ⌝ }
 {
@@ -41,6 +41,6 @@ pub fn append_digits(text: &mut [u8], at: usize, n: u64) -> usize
     ensures { λ r. ⌜ WrittenAt (now (text .entry)) (now (text .exit)) at r (digitsOf n) ⌝ }
 {
     let end = at + digit_count(n);
-    put_digits(text, end, n);
+    prepend_digits(text, end, n);
     end
 }

@@ -5,7 +5,7 @@ ghost use lib.ListN.{length};
 ghost use Rattle.slices.specs.Written.{WrittenAt};
 ghost use Rattle.duration_text.specs.DurationText.{partText, durationText};
 use decimal::digits::digit_count;
-use decimal::digits::put_digits;
+use decimal::digits::prepend_digits;
 use slices::prepend;
 
 // How many bytes a part prints as: none where it is zero.
@@ -35,7 +35,7 @@ pub fn duration_size(ms: u64) -> usize
 }
 
 // Puts a part's text so that it ends at a position, and answers where it begins; nothing where it is zero.
-fn put_part(text: &mut [u8], end: usize, k: u64, unit: &[u8]) -> usize
+fn prepend_part(text: &mut [u8], end: usize, k: u64, unit: &[u8]) -> usize
     requires { ⌜ (length (partText k (now unit)) ≤ end) × (end ≤ length (now text)) ⌝ }
     ensures { λ r. ⌜ WrittenAt (now (text .entry)) (now (text .exit)) r end (partText k (now (unit .entry))) ⌝ }
 {
@@ -43,7 +43,7 @@ fn put_part(text: &mut [u8], end: usize, k: u64, unit: &[u8]) -> usize
         return end;
     }
     let at = prepend(text, end, unit);
-    put_digits(text, at, k)
+    prepend_digits(text, at, k)
 }
 
 // Puts a duration's text so that it ends at a position, and answers where it begins: its last part first.
@@ -54,9 +54,9 @@ pub fn format_duration(text: &mut [u8], end: usize, ms: u64) -> usize
     if ms == 0 {
         return prepend(text, end, b"0s");
     }
-    let millis = put_part(text, end, ms % 1_000, b"ms");
-    let seconds = put_part(text, millis, ms / 1_000 % 60, b"s");
-    let minutes = put_part(text, seconds, ms / 60_000 % 60, b"m");
-    let hours = put_part(text, minutes, ms / 3_600_000 % 24, b"h");
-    put_part(text, hours, ms / 86_400_000, b"d")
+    let millis = prepend_part(text, end, ms % 1_000, b"ms");
+    let seconds = prepend_part(text, millis, ms / 1_000 % 60, b"s");
+    let minutes = prepend_part(text, seconds, ms / 60_000 % 60, b"m");
+    let hours = prepend_part(text, minutes, ms / 3_600_000 % 24, b"h");
+    prepend_part(text, hours, ms / 86_400_000, b"d")
 }

@@ -4,7 +4,7 @@ ghost use Prim.Native.Nat.{_-_, _+_, _≤_, _<_, _%_};
 ghost use lib.Dec.{eqb};
 ghost use lib.ListN.{length, getD};
 ghost use Rattle.classes.specs.Class.{faults, ampersand, bar};
-ghost use Rattle.grammar.specs.Inner.Heads.{joinOf};
+ghost use Rattle.grammar.specs.Inner.Starts.{joinOf};
 ghost use Rattle.nodes.specs.Inner.Parses.{keepIf};
 ghost use Rattle.endings.specs.Inner.Endings.{nextOperand, groupEnd, firstArgument, nextArgument, ListRoom, ListEnd};
 use grammar::Combinator;

@@ -4,7 +4,7 @@ pub mod BehindLaws
 pub mod CleanLaws
 pub mod FitsLaws
 pub mod GrammarLaws
-pub mod HeadLaws
+pub mod StartLaws
 pub mod NumberLaws
 pub mod SmallLaws
 pub mod TakenLaws

@@ -14,7 +14,7 @@ use Rattle.tokens.specs.declared.Token.{Token}
 use Rattle.tokens.specs.declared.Token.the-variants.{End, Open, Close, Comma, And, Or, Word, Fault}
 use Rattle.grammar.specs.Grammar.{tokenKind, openSign, commaSign, closeSign, missing, after, otherToken, expectedWord, refuse, primaryStart}
 use Rattle.grammar.proofs.Laws.TokenListLaws.{after-off, word-undue}
-use Rattle.grammar.proofs.Laws.HeadLaws.{head-none}
+use Rattle.grammar.proofs.Laws.StartLaws.{head-none}
 
 tag-kind : (t : Token) → tagOf the-type t ≡ tokenKind t
 tag-kind (End p) = refl

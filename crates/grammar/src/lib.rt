@@ -2,7 +2,7 @@
 ghost use mathlib.Core.Path.{_≡_};
 ghost use Rattle.refusals.specs.Refusals.{refusal};
 ghost use Rattle.image.specs.Encode.{leafKind, leafArg, joinKind, joinArg};
-ghost use Rattle.grammar.specs.Inner.Heads.{leafOf, joinOf};
+ghost use Rattle.grammar.specs.Inner.Starts.{leafOf, joinOf};
 ghost use Rattle.grammar.specs.Grammar.{functionOf};
 use ascii::eq_ignore_ascii_case;
 use refusals::Refusal;

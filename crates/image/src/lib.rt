@@ -38,7 +38,7 @@ pub fn is_leaf(kind: u32) -> bool
 }
 
 // Writes the first n tags, each in four bytes.
-fn put_tags(s: &mut [u8], at: usize, tags: &[u32], n: usize)
+fn write_tags(s: &mut [u8], at: usize, tags: &[u32], n: usize)
     requires { ⌜ (n ≤ length (now tags)) × (at + 4 * n ≤ length (now s)) ⌝ }
     ensures { λ _. ⌜ now (s .exit) ≡ written (now (s .entry)) at (packed 4 (take n (now (tags .entry)))) ⌝ }
 {
@@ -50,7 +50,7 @@ fn put_tags(s: &mut [u8], at: usize, tags: &[u32], n: usize)
 }
 
 // Writes the first n arguments, each in eight bytes.
-fn put_args(s: &mut [u8], at: usize, args: &[u64], n: usize)
+fn write_args(s: &mut [u8], at: usize, args: &[u64], n: usize)
     requires { ⌜ (n ≤ length (now args)) × (at + 8 * n ≤ length (now s)) ⌝ }
     ensures { λ _. ⌜ now (s .exit) ≡ written (now (s .entry)) at (packed 8 (take n (now (args .entry)))) ⌝ }
 {
@@ -62,7 +62,7 @@ fn put_args(s: &mut [u8], at: usize, args: &[u64], n: usize)
 }
 
 // Writes the first m name bytes.
-fn put_names(s: &mut [u8], at: usize, names: &[u8], m: usize)
+fn write_names(s: &mut [u8], at: usize, names: &[u8], m: usize)
     requires { ⌜ (m ≤ length (now names)) × (at + m ≤ length (now s)) ⌝ }
     ensures { λ _. ⌜ now (s .exit) ≡ written (now (s .entry)) at (take m (now (names .entry))) ⌝ }
 {
@@ -87,9 +87,9 @@ pub fn write_image(
 {
     write_u16(image, 0, n as u64);
     write_u16(image, 2, m as u64);
-    put_tags(image, 4, tags, n);
-    put_args(image, 4 + 4 * n, args, n);
-    put_names(image, 4 + 12 * n, names, m);
+    write_tags(image, 4, tags, n);
+    write_args(image, 4 + 4 * n, args, n);
+    write_names(image, 4 + 12 * n, names, m);
     4 + 12 * n + m
 }
 

@@ -7,7 +7,7 @@ ghost use Rattle.slices.specs.Text.{part};
 ghost use Rattle.refusals.specs.Refusals.{refusal};
 ghost use Rattle.rules.specs.Rule.{named};
 ghost use Rattle.image.specs.Encode.{tag};
-ghost use Rattle.grammar.specs.Inner.Heads.{leafOf, joinOf};
+ghost use Rattle.grammar.specs.Inner.Starts.{leafOf, joinOf};
 ghost use Rattle.nodes.specs.Inner.Parses.{arrays, NameRoom, Written, JoinRoom, Joined};
 use grammar::Combinator;
 use grammar::Test;
@@ -39,7 +39,7 @@ fn push(tags: &mut [u32], args: &mut [u64], n: usize, kind: u32, size: usize, ar
 }
 
 // Writes a name, a part of the text, behind the first m name bytes.
-fn put_name(text: &[u8], start: usize, end: usize, names: &mut [u8], m: usize)
+fn write_name(text: &[u8], start: usize, end: usize, names: &mut [u8], m: usize)
     requires { ⌜ (start ≤ end) × ((end ≤ length (now text)) × (m + (end - start) ≤ length (now names))) ⌝ }
     ensures { λ _. ⌜ take (m + (end - start)) (now (names .exit)) ≡ take m (now (names .entry)) ++ part (now (text .entry)) start end ⌝ }
 {
@@ -68,7 +68,7 @@ pub fn push_name(
     ensures { λ r. ⌜ Written (named (part (now (text .entry)) start end)) next n m (arrays (now (tags .entry)) (now (args .entry)) (now (names .entry))) (arrays (now (tags .exit)) (now (args .exit)) (now (names .exit))) r ⌝ }
 {
     let size = end - start;
-    put_name(text, start, end, names, m);
+    write_name(text, start, end, names, m);
     push(
         tags,
         args,

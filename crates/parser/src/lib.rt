@@ -3,7 +3,7 @@
 ghost use Prim.Native.Nat.{ℕ, _+_, _*_};
 ghost use Rattle.tokens.specs.Token.{tokensFrom};
 ghost use Rattle.grammar.specs.Grammar.{orIn, andIn, primaryIn};
-ghost use Rattle.grammar.specs.Inner.Heads.{left};
+ghost use Rattle.grammar.specs.Inner.Starts.{left};
 ghost use Rattle.nodes.specs.Inner.Parses.{arrays, Before, Parsed};
 use endings::Argument;
 use endings::Operand;

@@ -6,7 +6,7 @@ ghost use Rattle.slices.specs.Text.{part};
 ghost use Rattle.classes.specs.Class.{faults};
 ghost use Rattle.tokens.specs.Token.{tokensFrom};
 ghost use Rattle.grammar.specs.Grammar.{unquotedStart, after, openSign, wordStart, primaryStart};
-ghost use Rattle.grammar.specs.Inner.Heads.{left, Begins};
+ghost use Rattle.grammar.specs.Inner.Starts.{left, Begins};
 use ascii::eq_ignore_ascii_case;
 use calls::call_start;
 use grammar::PrimaryStart;

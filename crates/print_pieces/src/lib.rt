@@ -6,14 +6,21 @@ ghost use Rattle.slices.specs.Written.{WrittenAt};
 ghost use Rattle.image.specs.Kinds.{namedKind};
 ghost use Rattle.image.specs.Inner.Subtree.{NameInside};
 ghost use Rattle.print_text.specs.Inner.Pieces.{leafIn, openingOf, behindOf, backOf, frontOf};
-use decimal::digits::put_digits;
+use decimal::digits::prepend_digits;
 use duration_text::format_duration;
 use image::name_of;
 use print_size::is_bracketed;
 use slices::prepend;
 
 // Puts a leaf's text so that it ends at a position, and answers where it begins; so do the functions below with other pieces.
-pub fn put_leaf(image: &[u8], n: usize, kind: u32, arg: u64, text: &mut [u8], end: usize) -> usize
+pub fn prepend_leaf(
+    image: &[u8],
+    n: usize,
+    kind: u32,
+    arg: u64,
+    text: &mut [u8],
+    end: usize,
+) -> usize
     requires { ⌜ (kind ≡ namedKind → NameInside (now image) n arg) × (length (leafIn (now image) n kind arg) ≤ end) × (end ≤ length (now text)) ⌝ }
     ensures { λ r. ⌜ WrittenAt (now (text .entry)) (now (text .exit)) r end (leafIn (now (image .entry)) n kind arg) ⌝ }
 {
@@ -26,7 +33,7 @@ pub fn put_leaf(image: &[u8], n: usize, kind: u32, arg: u64, text: &mut [u8], en
         }
         image::READABLE => {
             let closed = prepend(text, end, b")");
-            let at = put_digits(text, closed, arg);
+            let at = prepend_digits(text, closed, arg);
             prepend(text, at, b"readable(")
         }
         _ => end,
@@ -34,14 +41,14 @@ pub fn put_leaf(image: &[u8], n: usize, kind: u32, arg: u64, text: &mut [u8], en
 }
 
 // What stands before a combinator's children.
-pub fn put_opening(kind: u32, arg: u64, text: &mut [u8], end: usize) -> usize
+pub fn prepend_opening(kind: u32, arg: u64, text: &mut [u8], end: usize) -> usize
     requires { ⌜ (length (openingOf kind arg) ≤ end) × (end ≤ length (now text)) ⌝ }
     ensures { λ r. ⌜ WrittenAt (now (text .entry)) (now (text .exit)) r end (openingOf kind arg) ⌝ }
 {
     match kind {
         image::AT_LEAST => {
             let comma = prepend(text, end, b", ");
-            let at = put_digits(text, comma, arg);
+            let at = prepend_digits(text, comma, arg);
             prepend(text, at, b"at_least(")
         }
         _ => end,
@@ -49,7 +56,7 @@ pub fn put_opening(kind: u32, arg: u64, text: &mut [u8], end: usize) -> usize
 }
 
 // What stands behind a child that is the last, or is not.
-fn put_behind(kind: u32, last: bool, text: &mut [u8], end: usize) -> usize
+fn prepend_after(kind: u32, last: bool, text: &mut [u8], end: usize) -> usize
     requires { ⌜ (length (behindOf kind last) ≤ end) × (end ≤ length (now text)) ⌝ }
     ensures { λ r. ⌜ WrittenAt (now (text .entry)) (now (text .exit)) r end (behindOf kind last) ⌝ }
 {
@@ -69,11 +76,11 @@ fn put_behind(kind: u32, last: bool, text: &mut [u8], end: usize) -> usize
 }
 
 // What stands behind a child, its closing bracket included.
-pub fn put_back(kind: u32, child: u32, last: bool, text: &mut [u8], end: usize) -> usize
+pub fn prepend_back(kind: u32, child: u32, last: bool, text: &mut [u8], end: usize) -> usize
     requires { ⌜ (length (backOf kind child last) ≤ end) × (end ≤ length (now text)) ⌝ }
     ensures { λ r. ⌜ WrittenAt (now (text .entry)) (now (text .exit)) r end (backOf kind child last) ⌝ }
 {
-    let at = put_behind(kind, last, text, end);
+    let at = prepend_after(kind, last, text, end);
     if is_bracketed(kind, child) {
         return prepend(text, at, b")");
     }
@@ -81,7 +88,7 @@ pub fn put_back(kind: u32, child: u32, last: bool, text: &mut [u8], end: usize) 
 }
 
 // The opening bracket of a child that has one.
-pub fn put_front(kind: u32, child: u32, text: &mut [u8], end: usize) -> usize
+pub fn prepend_front(kind: u32, child: u32, text: &mut [u8], end: usize) -> usize
     requires { ⌜ (length (frontOf kind child) ≤ end) × (end ≤ length (now text)) ⌝ }
     ensures { λ r. ⌜ WrittenAt (now (text .entry)) (now (text .exit)) r end (frontOf kind child) ⌝ }
 {

@@ -11,10 +11,10 @@ ghost use Rattle.image.specs.Inner.Subtree.{ValidSubtree};
 ghost use Rattle.print_text.specs.Print.{textOf};
 use image::is_leaf;
 use image::node_at;
-use print_pieces::put_back;
-use print_pieces::put_front;
-use print_pieces::put_leaf;
-use print_pieces::put_opening;
+use print_pieces::prepend_back;
+use print_pieces::prepend_front;
+use print_pieces::prepend_leaf;
+use print_pieces::prepend_opening;
 
 // The rule whose nodes are the `size` from `from` on: the size falls at each call.
 pub fn put_rule(
@@ -33,21 +33,21 @@ pub fn put_rule(
     let kind = root.kind;
     let arg = root.arg;
     if is_leaf(kind) {
-        return put_leaf(image, n, kind, arg, text, end);
+        return prepend_leaf(image, n, kind, arg, text, end);
     }
     let mut stop = at;
     let mut to = end;
     while from < stop {
         let child = node_at(image, n, stop - 1);
         let back = child.size;
-        to = put_back(kind, child.kind, stop == at, text, to);
+        to = prepend_back(kind, child.kind, stop == at, text, to);
         stop -= back;
         if is_leaf(child.kind) {
-            to = put_leaf(image, n, child.kind, child.arg, text, to);
+            to = prepend_leaf(image, n, child.kind, child.arg, text, to);
         } else {
             to = put_rule(image, n, stop, back, text, to);
         }
-        to = put_front(kind, child.kind, text, to);
+        to = prepend_front(kind, child.kind, text, to);
     }
-    put_opening(kind, arg, text, to)
+    prepend_opening(kind, arg, text, to)
 }

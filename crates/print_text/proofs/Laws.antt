@@ -1,4 +1,4 @@
 pub mod PrintLaws
 pub mod PiecesLaws
 pub mod ChildrenLaws
-pub mod PutLaws
+pub mod PrependLaws

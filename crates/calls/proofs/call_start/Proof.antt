@@ -1,7 +1,7 @@
 -- `calls::call_start` meets its contract: each function as its own head has it. Assumes nothing.
 use mathlib.Core.Path.{refl}
 use native.Mathlib.Omega.{arith}
-use Rattle.grammar.proofs.Laws.HeadLaws.{begins-refused, begins-list}
+use Rattle.grammar.proofs.Laws.StartLaws.{begins-refused, begins-list}
 use borrow.Author.Needs.{needs}
 use Rattle.calls.proofs.call_start.Statement.{statement}
 use Rattle.calls.proofs.call_start.Tie as tie

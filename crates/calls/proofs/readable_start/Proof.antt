@@ -5,7 +5,7 @@ use Rattle.tokens.specs.Token.{nextOf}
 use Rattle.decimal.specs.Count.{countOf}
 use Rattle.grammar.specs.Grammar.{closeSign, readableStart}
 use Rattle.grammar.proofs.Laws.TokenListLaws.{first-place, after-on, word-due, word-part, steps}
-use Rattle.grammar.proofs.Laws.HeadLaws.{begins-refused, begins-leaf, told}
+use Rattle.grammar.proofs.Laws.StartLaws.{begins-refused, begins-leaf, told}
 use Rattle.grammar.proofs.Tags.{no-word, no-sign}
 use borrow.Author.Needs.{needs}
 use Rattle.calls.proofs.readable_start.Statement.{statement}

@@ -15,26 +15,26 @@ returns : tie.Need-returns
 returns c = rw (duration-zero _ (c .before .before .before .before .before .if1 .taken)) (c .before .before .prepend .ensures)
 
 -- of a duration that is not zero: its text is as long as its parts, which are prepend one before the other
-put-part-requires : tie.Need-put-part-requires
-put-part-requires c κs = let e = c .before .before in omega (arith, duration-length (e .before .before .args .ms) (e .if1 .left))
+prepend-part-requires : tie.Need-prepend-part-requires
+prepend-part-requires c κs = let e = c .before .before in omega (arith, duration-length (e .before .before .args .ms) (e .if1 .left))
 
-put-part-requires-2 : tie.Need-put-part-requires-2
-put-part-requires-2 c κs =
+prepend-part-requires-2 : tie.Need-prepend-part-requires-2
+prepend-part-requires-2 c κs =
     let e = c .before .before .before .before .before .before .before in
     omega (arith, duration-length (e .before .before .args .ms) (e .if1 .left))
 
-put-part-requires-3 : tie.Need-put-part-requires-3
-put-part-requires-3 c κs =
+prepend-part-requires-3 : tie.Need-prepend-part-requires-3
+prepend-part-requires-3 c κs =
     let e = c .before .before .before .before .before .before .before .before .before .before .before .before in
     omega (arith, duration-length (e .before .before .args .ms) (e .if1 .left))
 
-put-part-requires-4 : tie.Need-put-part-requires-4
-put-part-requires-4 c κs =
+prepend-part-requires-4 : tie.Need-prepend-part-requires-4
+prepend-part-requires-4 c κs =
     let e = c .before .before .before .before .before .before .before .before .before .before .before .before .before .before .before .before .before in
     omega (arith, duration-length (e .before .before .args .ms) (e .if1 .left))
 
-put-part-requires-5 : tie.Need-put-part-requires-5
-put-part-requires-5 c κs =
+prepend-part-requires-5 : tie.Need-prepend-part-requires-5
+prepend-part-requires-5 c κs =
     let e = c .before .before .before .before .before .before .before .before .before .before .before .before .before .before .before .before .before .before .before .before .before .before in
     omega (arith, duration-length (e .before .before .args .ms) (e .if1 .left))
 
@@ -48,7 +48,7 @@ returns-2 c =
     let e = millis .before .before .before in
     let h = e .before .before .pre .1 in
     rw (duration-parts _ (e .if1 .left))
-    (put-before h (put-before h (put-before h (put-before h (millis .put-part .ensures) (seconds .put-part2 .ensures)) (minutes .put-part3 .ensures)) (hours .put-part4 .ensures)) (days .put-part5 .ensures))
+    (put-before h (put-before h (put-before h (put-before h (millis .prepend-part .ensures) (seconds .prepend-part2 .ensures)) (minutes .prepend-part3 .ensures)) (hours .prepend-part4 .ensures)) (days .prepend-part5 .ensures))
 
 pub format-duration-spec : {M : Type 1} → statement M
 format-duration-spec =
@@ -58,15 +58,15 @@ format-duration-spec =
     prepend-requires
     (λ c. search needs)  -- same-length
     returns
-    (λ c. search needs)  -- slice-aggregate-put-part
-    put-part-requires
-    (λ c. search needs)  -- slice-aggregate-put-part-2
-    put-part-requires-2
-    (λ c. search needs)  -- slice-aggregate-put-part-3
-    put-part-requires-3
-    (λ c. search needs)  -- slice-aggregate-put-part-4
-    put-part-requires-4
-    (λ c. search needs)  -- slice-aggregate-put-part-5
-    put-part-requires-5
+    (λ c. search needs)  -- slice-aggregate-prepend-part
+    prepend-part-requires
+    (λ c. search needs)  -- slice-aggregate-prepend-part-2
+    prepend-part-requires-2
+    (λ c. search needs)  -- slice-aggregate-prepend-part-3
+    prepend-part-requires-3
+    (λ c. search needs)  -- slice-aggregate-prepend-part-4
+    prepend-part-requires-4
+    (λ c. search needs)  -- slice-aggregate-prepend-part-5
+    prepend-part-requires-5
     (λ c. search needs)  -- same-length-2
     returns-2)

@@ -14,7 +14,7 @@ use Rattle.tokens.specs.Token.{placeOf, nextOf, tokenAt, onward, tokensFrom}
 use Rattle.tokens.specs.Inner.Bounds.{Lexed}
 use Rattle.tokens.proofs.Laws.TokenLaws.{tokens-are, goes-on, left-on, lexed}
 use Rattle.grammar.specs.Grammar.{tokenKind, rest, missing, after, firstPlace, expected, otherToken, expectedBy, expectedWord, commaSign, closeSign}
-use Rattle.grammar.specs.Inner.Heads.{left}
+use Rattle.grammar.specs.Inner.Starts.{left}
 
 -- the rest of the tokens, where the text goes on after the first
 after-onward : (k : ℕ) (t : Token) (n : Next) (more : ℕ → List Token) → (tokenKind t ≡ k → ⊥) → after k (onward t n more) ≡ missing

@@ -1,6 +1,6 @@
 -- `grammar::function_of` meets its contract: the names are compared in the order in which the definition has them. Assumes nothing.
 use lib.ListN.{drop}
-use Rattle.grammar.proofs.Laws.HeadLaws.{calls, Among, at-first, later, found}
+use Rattle.grammar.proofs.Laws.StartLaws.{calls, Among, at-first, later, found}
 use borrow.Author.Needs.{needs}
 use Rattle.grammar.proofs.function_of.Statement.{statement}
 use Rattle.grammar.proofs.function_of.Tie as tie

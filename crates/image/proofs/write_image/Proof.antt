@@ -34,7 +34,7 @@ returns c =
     let p₂ = p₃ .before .before .before .before in
     let p₁ = p₂ .before .before .before .before in
     let h = p₁ .before .before .before .before .before .before .pre in
-    (refl, parts _ _ _ _ (length-take-le _ _ (h .0)) (length-take-le _ _ (h .1 .0)) (length-take-le _ _ (h .1 .1 .0)) (p₁ .write-u16 .ensures) (p₂ .write-u162 .ensures) (p₃ .put-tags .ensures) (p₄ .put-args .ensures) (p₅ .put-names .ensures))
+    (refl, parts _ _ _ _ (length-take-le _ _ (h .0)) (length-take-le _ _ (h .1 .0)) (length-take-le _ _ (h .1 .1 .0)) (p₁ .write-u16 .ensures) (p₂ .write-u162 .ensures) (p₃ .write-tags .ensures) (p₄ .write-args .ensures) (p₅ .write-names .ensures))
 
 pub write-image-spec : {M : Type 1} → statement M
 write-image-spec =
@@ -42,13 +42,13 @@ write-image-spec =
     (tie.spec
     (λ c κs. search needs)  -- write-u16-requires
     (λ c κs. search needs)  -- write-u16-requires-2
-    (λ c κs. search needs)  -- put-tags-requires
-    (λ c. search needs)  -- mul-put-args
-    (λ c. search needs)  -- add-put-args
-    (λ c κs. search needs)  -- put-args-requires
-    (λ c. search needs)  -- mul-put-names
-    (λ c. search needs)  -- add-put-names
-    (λ c κs. search needs)  -- put-names-requires
+    (λ c κs. search needs)  -- write-tags-requires
+    (λ c. search needs)  -- mul-write-args
+    (λ c. search needs)  -- add-write-args
+    (λ c κs. search needs)  -- write-args-requires
+    (λ c. search needs)  -- mul-write-names
+    (λ c. search needs)  -- add-write-names
+    (λ c κs. search needs)  -- write-names-requires
     (λ c. search needs)  -- mul-result
     (λ c. search needs)  -- add-result
     (λ c. search needs)  -- add-result-2

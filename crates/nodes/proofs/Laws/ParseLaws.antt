@@ -14,7 +14,7 @@ use Rattle.rules.specs.Rule.{Leaf, Join, all, any, Rule, leaf, node, Rules, nil
 use Rattle.image.specs.Encode.{joinKind, tag, joinArg, leafName, tags, tagsAll, args, argsAll, names, namesAll}
 use Rattle.image.proofs.Laws.EncodeLaws.{length-tags, length-tagsAll}
 use Rattle.grammar.specs.Grammar.{Rest, rest, missing, after, andSign, orSign, commaSign, closeSign, firstPlace, aLeaf, aGroup, aList, refused, primaryStart, chain, ParseResult, got, bad, onto, onRest, closeAfter, orIn, orMore, andIn, andMore, primaryIn, listMore}
-use Rattle.grammar.specs.Inner.Heads.{left}
+use Rattle.grammar.specs.Inner.Starts.{left}
 use Rattle.nodes.specs.Inner.Parses.{Arrays, Long, Holds, Read, Parsed, Written, Joined, keepIf}
 use Rattle.nodes.proofs.Laws.ArrayLaws.{holds-as, holds-join, holds-push, holds-none, front, rebased}
 use Rattle.nodes.proofs.Laws.ChainLaws.{Chains, by-all, by-any, chained}

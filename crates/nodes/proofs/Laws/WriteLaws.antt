@@ -9,7 +9,7 @@ use Rattle.slices.specs.Text.{part}
 use Rattle.slices.proofs.Laws.TextLaws.{part-length}
 use Rattle.rules.specs.Rule.{Leaf, named, olderThan, readable, Join}
 use Rattle.image.specs.Encode.{leafKind, joinKind, tag, leafArg, joinArg, leafName, tags, args, names}
-use Rattle.grammar.specs.Inner.Heads.{leafOf}
+use Rattle.grammar.specs.Inner.Starts.{leafOf}
 use Rattle.grammar.specs.declared.Test.{Test}
 use Rattle.grammar.specs.declared.Test.the-variants.{OlderThan, Readable}
 use Rattle.nodes.specs.declared.ParseEnd.{ParseEnd}

@@ -3,7 +3,7 @@ use native.Mathlib.Omega.{arith}
 use mathlib.Core.Path.{refl}
 use borrow.Author.Needs.{needs}
 use Rattle.image.proofs.Laws.EncodeLaws.{join-kind}
-use Rattle.grammar.specs.Inner.Heads.{joinOf}
+use Rattle.grammar.specs.Inner.Starts.{joinOf}
 use Rattle.nodes.proofs.Laws.WriteLaws.{joined}
 use Rattle.nodes.proofs.push_combinator.Statement.{statement}
 use Rattle.nodes.proofs.push_combinator.Tie as tie

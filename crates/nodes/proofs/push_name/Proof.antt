@@ -10,14 +10,14 @@ returns c =
     let pushed = c .before .before .before .before in
     let put = pushed .before .before .before .before .before in
     let entry = put .before .before .before .before .before .before in
-    name-written (entry .pre) (pushed .push .ensures .0) (pushed .push .ensures .1) (put .put-name .ensures) refl
+    name-written (entry .pre) (pushed .push .ensures .0) (pushed .push .ensures .1) (put .write-name .ensures) refl
 
 pub push-name-spec : {M : Type 1} → statement M
 push-name-spec =
     tie.close
     (tie.spec
     (λ c. search needs)  -- sub-size
-    (λ c κs. search needs)  -- put-name-requires
+    (λ c κs. search needs)  -- write-name-requires
     (λ c. search needs)  -- mul-push
     (λ c. search needs)  -- add-push
     (λ c κs. search needs)  -- push-requires

@@ -3,7 +3,7 @@ use mathlib.Core.Path.{refl}
 use native.Mathlib.Omega.{arith}
 use borrow.Author.Needs.{needs}
 use Rattle.image.proofs.Laws.EncodeLaws.{leaf-kind}
-use Rattle.grammar.specs.Inner.Heads.{leafOf}
+use Rattle.grammar.specs.Inner.Starts.{leafOf}
 use Rattle.nodes.proofs.Laws.WriteLaws.{test-written}
 use Rattle.nodes.proofs.push_test.Statement.{statement}
 use Rattle.nodes.proofs.push_test.Tie as tie

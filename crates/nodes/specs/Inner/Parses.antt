@@ -11,7 +11,7 @@ use Rattle.tokens.specs.Token.{tokensFrom}
 use Rattle.rules.specs.Rule.{Leaf, Join, Rule, leaf}
 use Rattle.image.specs.Encode as image
 use Rattle.grammar.specs.Grammar.{ParseResult, got, bad}
-use Rattle.grammar.specs.Inner.Heads.{left}
+use Rattle.grammar.specs.Inner.Starts.{left}
 use Rattle.nodes.specs.declared.ParseEnd.{ParseEnd}
 use Rattle.nodes.specs.declared.ParseEnd.the-variants.{Done, Refused}
 

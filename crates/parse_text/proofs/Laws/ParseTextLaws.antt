@@ -22,7 +22,7 @@ use Rattle.image.specs.Encode.{tags, args, names}
 use Rattle.image.proofs.Laws.EncodeLaws.{length-tags}
 use Rattle.grammar.specs.Grammar.{tokenKind, ParseResult, got, bad, orIn}
 use Rattle.grammar.specs.Reading.{Read, rule, refused, atEnd, ended, parseOf, scannedOf, readOf}
-use Rattle.grammar.specs.Inner.Heads.{left}
+use Rattle.grammar.specs.Inner.Starts.{left}
 use Rattle.grammar.proofs.Laws.TokenListLaws.{first-place}
 use Rattle.grammar.proofs.Laws.CleanLaws.{read-clean}
 use Rattle.nodes.specs.Inner.Parses as parses

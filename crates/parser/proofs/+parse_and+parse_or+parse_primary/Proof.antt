@@ -11,8 +11,8 @@ use Rattle.tokens.specs.Token.{tokensFrom}
 use Rattle.rules.specs.Rule.{all, any}
 use Rattle.image.specs.Encode.{joinKind}
 use Rattle.grammar.specs.Grammar.{andSign, orSign, ParseResult, orIn, orMore, andIn, andMore}
-use Rattle.grammar.specs.Inner.Heads.{joinOf, headNext, left}
-use Rattle.grammar.proofs.Laws.HeadLaws.{head-is, head-ahead}
+use Rattle.grammar.specs.Inner.Starts.{joinOf, headNext, left}
+use Rattle.grammar.proofs.Laws.StartLaws.{head-is, head-ahead}
 use Rattle.nodes.specs.Inner.Parses.{arrays}
 use Rattle.nodes.proofs.Laws.ParseLaws.{and-level, or-level}
 use Rattle.parser.proofs.Laws.OperandLaws.{lengths, Chaining, chain-refused, chain-begin, chain-stop, operand-asks, operand-follows, right-before, right-room, right-fewer, right-fails, chain-turn}

@@ -12,7 +12,7 @@ use Rattle.tokens.specs.Token.{placeOf, tokenAt, tokensFrom}
 use Rattle.tokens.specs.Inner.Bounds.{nextOfClass}
 use Rattle.rules.specs.Rule.{Join}
 use Rattle.grammar.specs.Grammar.{bad, after, missing, closeSign, commaSign, aGroup, aList, primaryStart, orIn, primaryIn}
-use Rattle.grammar.specs.Inner.Heads.{left}
+use Rattle.grammar.specs.Inner.Starts.{left}
 use Rattle.grammar.proofs.Laws.TokenListLaws.{first-place}
 use Rattle.grammar.proofs.Laws.BehindLaws.{test-on, test-off}
 use Rattle.nodes.specs.declared.ParseEnd.{ParseEnd}

@@ -14,7 +14,7 @@ use Rattle.tokens.specs.Inner.Bounds.{nextOfClass}
 use Rattle.rules.specs.Rule.{Join}
 use Rattle.image.specs.Encode.{joinKind}
 use Rattle.grammar.specs.Grammar.{ParseResult, missing, after}
-use Rattle.grammar.specs.Inner.Heads.{left}
+use Rattle.grammar.specs.Inner.Starts.{left}
 use Rattle.grammar.proofs.Laws.TokenListLaws.{Signed}
 use Rattle.grammar.proofs.Laws.BehindLaws.{test-on, test-off}
 use Rattle.nodes.specs.declared.ParseEnd.{ParseEnd}

@@ -11,12 +11,12 @@ use Rattle.tokens.specs.Token.{tokensFrom}
 use Rattle.rules.specs.Rule.{named}
 use Rattle.image.specs.Encode.{leafName}
 use Rattle.grammar.specs.Grammar.{primaryStart, orIn, primaryIn}
-use Rattle.grammar.specs.Inner.Heads.{leafOf, headNext, left, Begins}
+use Rattle.grammar.specs.Inner.Starts.{leafOf, headNext, left, Begins}
 use Rattle.grammar.specs.declared.Test.{Test}
 use Rattle.grammar.specs.declared.Test.the-variants.{OlderThan, Readable}
 use Rattle.grammar.specs.declared.PrimaryStart.{PrimaryStart}
 use Rattle.grammar.specs.declared.PrimaryStart.the-variants.{Name, Leaf, Group, Refused as NoHead}
-use Rattle.grammar.proofs.Laws.HeadLaws.{head-is, head-ahead}
+use Rattle.grammar.proofs.Laws.StartLaws.{head-is, head-ahead}
 use Rattle.nodes.specs.declared.ParseEnd.{ParseEnd}
 use Rattle.nodes.specs.declared.ParseEnd.the-variants.{Done, Refused}
 use Rattle.nodes.specs.Inner.Parses.{Arrays, Before, Parsed, NameRoom, Written}

@@ -3,7 +3,7 @@ use mathlib.Core.Path.{refl, sym, _∙_}
 use native.Mathlib.Omega.{arith}
 use Rattle.tokens.specs.Token.{nextOf}
 use Rattle.grammar.proofs.Laws.TokenListLaws.{word-part, steps}
-use Rattle.grammar.proofs.Laws.HeadLaws.{begins-group, begins-refused, begins-within, head-next, too-deep, not-deep}
+use Rattle.grammar.proofs.Laws.StartLaws.{begins-group, begins-refused, begins-within, head-next, too-deep, not-deep}
 use Rattle.grammar.proofs.Tags.{no-primary}
 use borrow.Author.Needs.{needs}
 use Rattle.primary_start.proofs.primary_start_at.Statement.{statement}

@@ -1,7 +1,7 @@
 -- `primary_start::word_start` meets its contract: by whether the word is quoted. Assumes nothing.
 use mathlib.Core.Path.{refl}
 use native.Mathlib.Omega.{arith}
-use Rattle.grammar.proofs.Laws.HeadLaws.{begins-name}
+use Rattle.grammar.proofs.Laws.StartLaws.{begins-name}
 use borrow.Author.Needs.{needs}
 use Rattle.primary_start.proofs.word_start.Statement.{statement}
 use Rattle.primary_start.proofs.word_start.Tie as tie

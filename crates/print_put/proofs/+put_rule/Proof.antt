@@ -18,16 +18,16 @@ use Rattle.slices.specs.Written.{WrittenAt}
 use Rattle.slices.proofs.Laws.WrittenLaws.{put-none, put-before, put-length}
 use Rattle.print_text.specs.Print.{textOf}
 use Rattle.print_text.proofs.Laws.ChildrenLaws.{Walks, walks-start, Turn, turn, walks-next, walks-done, leaf-text}
-use Rattle.print_text.proofs.Laws.PutLaws.{pieces-room, child-room, put-start}
+use Rattle.print_text.proofs.Laws.PrependLaws.{pieces-room, child-room, put-start}
 use Rattle.print_put.proofs.put_rule.Reads as put-rule
 use Rattle.print_put.proofs.put_rule.Kinds as put-rule-kinds
 use Rattle.print_put.proofs.+put_rule.Lts-put_rule as put-rule-lts
 use Rattle.image.proofs.is_leaf.Reads as is-leaf-reads
 use Rattle.image.proofs.node_at.Reads as node-at-reads
-use Rattle.print_pieces.proofs.put_back.Reads as put-back-reads
-use Rattle.print_pieces.proofs.put_front.Reads as put-front-reads
-use Rattle.print_pieces.proofs.put_leaf.Reads as put-leaf-reads
-use Rattle.print_pieces.proofs.put_opening.Reads as put-opening-reads
+use Rattle.print_pieces.proofs.prepend_back.Reads as prepend-back-reads
+use Rattle.print_pieces.proofs.prepend_front.Reads as prepend-front-reads
+use Rattle.print_pieces.proofs.prepend_leaf.Reads as prepend-leaf-reads
+use Rattle.print_pieces.proofs.prepend_opening.Reads as prepend-opening-reads
 use Rattle.print_put.proofs.+put_rule.{statement}
 use Rattle.print_put.proofs.+put_rule.Tie.{close}
 
@@ -43,7 +43,7 @@ put-rule-below t =
 
 -- what the callees ask and give
 abbrev given : ℕ → put-rule-lts.Claims
-given t = (node-at-reads.Asked, node-at-reads.Learnt, is-leaf-reads.Asked, is-leaf-reads.Learnt, put-leaf-reads.Asked, put-leaf-reads.Learnt, put-back-reads.Asked, put-back-reads.Learnt, put-rule-below t, put-rule.Post, put-front-reads.Asked, put-front-reads.Learnt, put-opening-reads.Asked, put-opening-reads.Learnt)
+given t = (node-at-reads.Asked, node-at-reads.Learnt, is-leaf-reads.Asked, is-leaf-reads.Learnt, prepend-leaf-reads.Asked, prepend-leaf-reads.Learnt, prepend-back-reads.Asked, prepend-back-reads.Learnt, put-rule-below t, put-rule.Post, prepend-front-reads.Asked, prepend-front-reads.Learnt, prepend-opening-reads.Asked, prepend-opening-reads.Learnt)
 
 abbrev put-rule-Inv-loop : put-rule-lts.InvT-loop
 put-rule-Inv-loop image n from size text₀ end at kind arg stop₀ to₀ text stop to =
@@ -73,8 +73,8 @@ put-rule-node-at-requires t c κs = (c .before .before .pre .1 .0 .long, omega (
 put-rule-is-leaf-requires : (t : ℕ) → put-rule-lts.Need-is-leaf-requires (given t) (put-rule-at t) put-rule.Post put-rule-Inv-loop put-rule-μ-loop
 put-rule-is-leaf-requires t c κs = search needs
 
-put-rule-put-leaf-requires : (t : ℕ) → put-rule-lts.Need-put-leaf-requires (given t) (put-rule-at t) put-rule.Post put-rule-Inv-loop put-rule-μ-loop
-put-rule-put-leaf-requires t c κs =
+put-rule-prepend-leaf-requires : (t : ℕ) → put-rule-lts.Need-prepend-leaf-requires (given t) (put-rule-at t) put-rule.Post put-rule-Inv-loop put-rule-μ-loop
+put-rule-prepend-leaf-requires t c κs =
     let s = c .before .before .before .before .before .before in
     let d = c .before .before .before .node-at .ensures in
     let h = s .pre .1 .0 .here in (
@@ -89,7 +89,7 @@ put-rule-same-length t c = search needs
 put-rule-returns : (t : ℕ) → put-rule-lts.Need-returns (given t) (put-rule-at t) put-rule.Post put-rule-Inv-loop put-rule-μ-loop
 put-rule-returns t c = λ ρ e st.
     let s = c .before .before .before .before .before .before .before .before .before in
-    rw (← leaf-text _ _ _ _ _ (c .before .before .before .before .before .before .node-at .ensures) (omega (arith, the-node t s)) (sym (c .before .before .before .before .before .is-leaf .ensures) ∙ c .before .before .before .before .if1 .taken) ρ e st) (c .before .before .put-leaf .ensures)
+    rw (← leaf-text _ _ _ _ _ (c .before .before .before .before .before .before .node-at .ensures) (omega (arith, the-node t s)) (sym (c .before .before .before .before .before .is-leaf .ensures) ∙ c .before .before .before .before .if1 .taken) ρ e st) (c .before .before .prepend-leaf .ensures)
 
 put-rule-loop-holds : (t : ℕ) → put-rule-lts.Need-loop-holds (given t) (put-rule-at t) put-rule.Post put-rule-Inv-loop put-rule-μ-loop
 put-rule-loop-holds t c = (omega arith, walks-start _ _ _ _ _ (c .before .before .node-at .ensures) (omega (arith, the-node t (c .before .before .before .before .before))) (sym (c .before .is-leaf .ensures) ∙ c .if1 .left) (put-none _ _))
@@ -113,8 +113,8 @@ the-turn t c =
     let i = c .before .before .loop .inv in
     turn _ _ _ _ _ (i .1) (i .0) (c .before .loop-test .taken) (c .node-at2 .ensures) (h .rule) (h .sized) (h .stands)
 
-put-rule-put-back-requires : (t : ℕ) → put-rule-lts.Need-put-back-requires (given t) (put-rule-at t) put-rule.Post put-rule-Inv-loop put-rule-μ-loop
-put-rule-put-back-requires t c κs =
+put-rule-prepend-back-requires : (t : ℕ) → put-rule-lts.Need-prepend-back-requires (given t) (put-rule-at t) put-rule.Post put-rule-Inv-loop put-rule-μ-loop
+put-rule-prepend-back-requires t c κs =
     let s = c .before .before .before .before .before .before .before .before .before in
     let u = the-turn t (c .before) in
     (omega (arith, pieces-room (the-fit t s) u), put-start (s .pre .1 .2) (u .holds))
@@ -126,19 +126,19 @@ put-rule-sub-stop t c = omega (arith, the-turn t (c .before .before .before .bef
 the-place : (t : ℕ) (c : put-rule-lts.After-is-leaf2 (given t) (put-rule-at t) put-rule.Post put-rule-Inv-loop put-rule-μ-loop) →
     let s = c .before .before .before .before .before .before .before .before .before .before .before .before .before .args in
     let d = c .before .before .before .before .before .node-at2 .result in
-    let p = c .before .before .before .put-back in
+    let p = c .before .before .before .prepend-back in
     ((q : Rule) → size q ≡ d .size → EncodedAt q (cellAt (s .image .now) (s .n)) (c .before .before .before .before .before .before .before .loop .stop - d .size) → length (textOf q) ≤ p .result) × (p .result ≤ length (p .last .1 .1 .1 .0))
 the-place t c =
     let s = c .before .before .before .before .before .before .before .before .before .before .before .before .before in
     let u = the-turn t (c .before .before .before .before .before) in
-    let p = c .before .before .before .put-back in
+    let p = c .before .before .before .prepend-back in
     (child-room (the-fit t s) u (p .ensures .ends), omega (arith, p .ensures .ends, put-start (s .pre .1 .2) (u .holds)))
 
 put-rule-is-leaf-requires-2 : (t : ℕ) → put-rule-lts.Need-is-leaf-requires-2 (given t) (put-rule-at t) put-rule.Post put-rule-Inv-loop put-rule-μ-loop
 put-rule-is-leaf-requires-2 t c κs = search needs
 
-put-rule-put-leaf-requires-2 : (t : ℕ) → put-rule-lts.Need-put-leaf-requires-2 (given t) (put-rule-at t) put-rule.Post put-rule-Inv-loop put-rule-μ-loop
-put-rule-put-leaf-requires-2 t c κs =
+put-rule-prepend-leaf-requires-2 : (t : ℕ) → put-rule-lts.Need-prepend-leaf-requires-2 (given t) (put-rule-at t) put-rule.Post put-rule-Inv-loop put-rule-μ-loop
+put-rule-prepend-leaf-requires-2 t c κs =
     let s = c .before .before .before .before .before .before .before .before .before .before .before .before .before .before .before in
     let d = c .before .before .before .before .before .before .before .node-at2 .ensures in
     let u = the-turn t (c .before .before .before .before .before .before .before) in
@@ -169,18 +169,18 @@ put-rule-put-rule-requires t c κs =
 the-text : (t : ℕ) (c : put-rule-lts.Joined2 (given t) (put-rule-at t) put-rule.Post put-rule-Inv-loop put-rule-μ-loop) →
     let s = c .before .before .before .before .before .before .before .before .before .before .before .before .before .before .args in
     let d = c .before .before .before .before .before .before .node-at2 .result in
-    let p = c .before .before .before .before .put-back in
+    let p = c .before .before .before .before .prepend-back in
     (q : Rule) → size q ≡ d .size → EncodedAt q (cellAt (s .image .now) (s .n)) (c .before .before .before .before .before .before .before .before .loop .stop - d .size) → WrittenAt (p .last .1 .1 .1 .0) (c .if2 .text) (c .if2 .to) (p .result) (textOf q)
 the-text t c q e st =
     let u = the-turn t (c .before .before .before .before .before .before) in
     ⊎-elim (λ w. rw (w .5, w .6, ← leaf-text _ _ _ _ _ (c .before .before .before .before .before .before .node-at2 .ensures) (omega (arith, u .some, u .fits)) (sym (c .before .is-leaf2 .ensures) ∙ w .0 .taken) q e st) (w .2 .ensures)) (λ w. rw (w .5, w .6) (w .2 .ensures q e st)) (c .if2 .came)
 
-put-rule-put-front-requires : (t : ℕ) → put-rule-lts.Need-put-front-requires (given t) (put-rule-at t) put-rule.Post put-rule-Inv-loop put-rule-μ-loop
-put-rule-put-front-requires t c κs =
+put-rule-prepend-front-requires : (t : ℕ) → put-rule-lts.Need-prepend-front-requires (given t) (put-rule-at t) put-rule.Post put-rule-Inv-loop put-rule-μ-loop
+put-rule-prepend-front-requires t c κs =
     let s = c .before .before .before .before .before .before .before .before .before .before .before .before .before .before .before in
     let u = the-turn t (c .before .before .before .before .before .before .before) in
     let (room, long) = the-place t (c .before .before) in
-    let p = c .before .before .before .before .before .put-back .ensures .ends in
+    let p = c .before .before .before .before .before .prepend-back .ensures .ends in
     let x = the-text t (c .before) (u .child) (u .sized) (u .stands) in
     let q = x .ends in
     (omega (arith, pieces-room (the-fit t s) u), put-start long x)
@@ -192,10 +192,10 @@ put-rule-loop-again : (t : ℕ) → put-rule-lts.Need-loop-again (given t) (put-
 put-rule-loop-again t c =
     let long = c .before .before .before .before .before .before .before .before .before .before .before .before .before .before .before .before .before .before .pre .1 .2 in
     let i = c .before .before .before .before .before .before .before .before .before .before .before .before .loop .inv in
-    (omega (arith, i .0), walks-next _ _ _ _ _ (i .1) (i .0) (c .before .before .before .before .before .before .before .before .before .before .before .loop-test .taken) (c .before .before .before .before .before .before .before .before .before .before .node-at2 .ensures) (λ q v e st h. put-before long (put-before long (put-before long h (c .before .before .before .before .before .before .before .before .put-back .ensures)) (the-text t (c .before .before .before .before) q e st)) (c .before .before .put-front .ensures)))
+    (omega (arith, i .0), walks-next _ _ _ _ _ (i .1) (i .0) (c .before .before .before .before .before .before .before .before .before .before .before .loop-test .taken) (c .before .before .before .before .before .before .before .before .before .before .node-at2 .ensures) (λ q v e st h. put-before long (put-before long (put-before long h (c .before .before .before .before .before .before .before .before .prepend-back .ensures)) (the-text t (c .before .before .before .before) q e st)) (c .before .before .prepend-front .ensures)))
 
-put-rule-put-opening-requires : (t : ℕ) → put-rule-lts.Need-put-opening-requires (given t) (put-rule-at t) put-rule.Post put-rule-Inv-loop put-rule-μ-loop
-put-rule-put-opening-requires t c κs =
+put-rule-prepend-opening-requires : (t : ℕ) → put-rule-lts.Need-prepend-opening-requires (given t) (put-rule-at t) put-rule.Post put-rule-Inv-loop put-rule-μ-loop
+put-rule-prepend-opening-requires t c κs =
     let s = c .before .before .before .before .before .before .before .before in
     let h = s .pre .1 .0 .here in
     let (v, e, x) = walks-done _ _ _ _ _ (c .before .before .loop .inv .1) (c .before .loop-test .left) (h .rule) (h .sized) (h .stands) in
@@ -211,7 +211,7 @@ put-rule-same-length-2 t c =
 put-rule-returns-2 : (t : ℕ) → put-rule-lts.Need-returns-2 (given t) (put-rule-at t) put-rule.Post put-rule-Inv-loop put-rule-μ-loop
 put-rule-returns-2 t c = λ ρ e st.
     let (v, p, x) = walks-done _ _ _ _ _ (c .before .before .before .before .before .loop .inv .1) (c .before .before .before .before .loop-test .left) ρ e st in
-    rw p (put-before (c .before .before .before .before .before .before .before .before .before .before .before .pre .1 .2) x (c .before .before .put-opening .ensures))
+    rw p (put-before (c .before .before .before .before .before .before .before .before .before .before .before .pre .1 .2) x (c .before .before .prepend-opening .ensures))
 
 pub +put-rule-spec : {M : Type 1} → statement M
 +put-rule-spec = close μ-put-rule λ t. put-rule-lts.spec (given t)
@@ -223,20 +223,20 @@ pub +put-rule-spec : {M : Type 1} → statement M
     (put-rule-sub-at t)
     (put-rule-node-at-requires t)
     (put-rule-is-leaf-requires t)
-    (put-rule-put-leaf-requires t)
+    (put-rule-prepend-leaf-requires t)
     (put-rule-same-length t)
     (put-rule-returns t)
     (put-rule-loop-holds t)
     (put-rule-sub-node-at t)
     (put-rule-node-at-requires-2 t)
-    (put-rule-put-back-requires t)
+    (put-rule-prepend-back-requires t)
     (put-rule-sub-stop t)
     (put-rule-is-leaf-requires-2 t)
-    (put-rule-put-leaf-requires-2 t)
+    (put-rule-prepend-leaf-requires-2 t)
     (put-rule-put-rule-requires t)
-    (put-rule-put-front-requires t)
+    (put-rule-prepend-front-requires t)
     (put-rule-loop-less t)
     (put-rule-loop-again t)
-    (put-rule-put-opening-requires t)
+    (put-rule-prepend-opening-requires t)
     (put-rule-same-length-2 t)
     (put-rule-returns-2 t)

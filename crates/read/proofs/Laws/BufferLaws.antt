@@ -13,7 +13,7 @@ use Rattle.image.specs.Encode.{tags, args, names, imageOf, encode}
 use Rattle.image.proofs.Laws.EncodeLaws.{length-encode}
 use Rattle.grammar.specs.Reading.{Read, readOf}
 use Rattle.read.specs.Outcome.{outcome, readingOf, readInto}
-use Rattle.grammar.specs.Inner.Heads.{left}
+use Rattle.grammar.specs.Inner.Starts.{left}
 use Rattle.nodes.specs.Inner.Parses.{Arrays}
 use Rattle.parse_text.specs.Inner.Parsing.{Whole}
 use Rattle.read.specs.declared.Reading.the-variants.{Read as Written, Refused as Unread}

@@ -12,8 +12,8 @@ digit-count-requires c κs = search needs
 add-end : tie.Need-add-end
 add-end c = omega (arith, digits-short (c .before .before .args .n))
 
-put-digits-requires : tie.Need-put-digits-requires
-put-digits-requires c κs = omega (arith, digits-short (c .before .before .before .args .n))
+prepend-digits-requires : tie.Need-prepend-digits-requires
+prepend-digits-requires c κs = omega (arith, digits-short (c .before .before .before .args .n))
 
 same-length : tie.Need-same-length
 same-length c = search needs
@@ -21,7 +21,7 @@ same-length c = search needs
 returns : tie.Need-returns
 returns c =
     let p = c .before .before in
-    put-from _ (omega (arith, p .before .before .digit-count .ensures)) (p .put-digits .ensures)
+    put-from _ (omega (arith, p .before .before .digit-count .ensures)) (p .prepend-digits .ensures)
 
 pub append-digits-spec : {M : Type 1} → statement M
-append-digits-spec = tie.close (tie.spec digit-count-requires add-end put-digits-requires same-length returns)
+append-digits-spec = tie.close (tie.spec digit-count-requires add-end prepend-digits-requires same-length returns)

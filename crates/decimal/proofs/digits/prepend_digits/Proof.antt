@@ -1,12 +1,12 @@
--- `decimal::digits::put_digits` meets its contract: the digits put stand behind those of what is left. Assumes nothing.
+-- `decimal::digits::prepend_digits` meets its contract: the digits put stand behind those of what is left. Assumes nothing.
 use mathlib.Core.Path.{_≡_, refl}
 use Prim.Native.Nat.{_≤_}
 use native.Mathlib.Omega.{arith}
 use borrow.Author.Needs.{needs}
 use lib.ListN.{length}
 use Rattle.decimal.proofs.Laws.DigitsLaws.{PutBehind, behind-none, behind-room, behind-on, behind-first}
-use Rattle.decimal.proofs.digits.put_digits.Statement.{statement}
-use Rattle.decimal.proofs.digits.put_digits.Tie as tie
+use Rattle.decimal.proofs.digits.prepend_digits.Statement.{statement}
+use Rattle.decimal.proofs.digits.prepend_digits.Tie as tie
 
 abbrev Inv-loop : tie.InvT-loop
 Inv-loop text₀ end n at₀ left₀ text at left = (left ≤ n) × (length text ≡ length text₀) × PutBehind n left text₀ text at end
@@ -41,8 +41,8 @@ slice-write-text-2 c = omega (arith, room (c .before))
 returns : tie.Need-returns Inv-loop μ-loop
 returns c = let p = c .before .before .pre in behind-first _ _ (c .before .loop .inv .2) (p .0) (p .1) (omega arith)
 
-pub put-digits-spec : {M : Type 1} → statement M
-put-digits-spec =
+pub prepend-digits-spec : {M : Type 1} → statement M
+prepend-digits-spec =
     tie.close
     (tie.spec
     Inv-loop

@@ -1,4 +1,4 @@
--- `nodes::put_name` meets its contract: the name so far stands behind the names before it. Assumes nothing.
+-- `nodes::write_name` meets its contract: the name so far stands behind the names before it. Assumes nothing.
 use mathlib.Core.Path.{_≡_, refl, sym, ap, _∙_}
 use mathlib.Core.List.{_++_}
 use Prim.Native.Nat.{ℕ, _≤_, _+_, _-_}
@@ -7,8 +7,8 @@ use borrow.Author.Needs.{needs}
 use lib.ListN.{length, take, length-set}
 use Rattle.slices.specs.Text.{part}
 use Rattle.nodes.proofs.Laws.ArrayLaws.{name-none, name-more}
-use Rattle.nodes.proofs.put_name.Statement.{statement}
-use Rattle.nodes.proofs.put_name.Tie as tie
+use Rattle.nodes.proofs.write_name.Statement.{statement}
+use Rattle.nodes.proofs.write_name.Tie as tie
 
 abbrev Inv-loop : tie.InvT-loop
 Inv-loop text start end names₀ m i₀ j₀ names i j = (start ≤ i) × (i ≤ end) × (j ≡ m + (i - start)) × (length names ≡ length names₀) × (take j names ≡ take m names₀ ++ part text start i)
@@ -56,5 +56,5 @@ returns c =
     let k : l .j ≡ s .args .m + (s .args .end - s .args .start) = omega arith in
     ap (λ (x : ℕ). take x (l .names)) (sym k) ∙ l .inv .4 ∙ ap (λ (x : ℕ). take (s .args .m) (s .args .names .now) ++ part (s .args .text .now) (s .args .start) x) q
 
-pub put-name-spec : {M : Type 1} → statement M
-put-name-spec = tie.close (tie.spec Inv-loop μ-loop loop-holds shared-slice-read-names slice-write-names add-i add-j loop-less loop-again same-length returns)
+pub write-name-spec : {M : Type 1} → statement M
+write-name-spec = tie.close (tie.spec Inv-loop μ-loop loop-holds shared-slice-read-names slice-write-names add-i add-j loop-less loop-again same-length returns)

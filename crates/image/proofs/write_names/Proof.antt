@@ -1,4 +1,4 @@
--- `image::put_names` meets its contract: after i turns the first i bytes are written. Assumes nothing.
+-- `image::write_names` meets its contract: after i turns the first i bytes are written. Assumes nothing.
 use mathlib.Core.Path.{_≡_, refl}
 use Prim.Native.Nat.{_-_, _≤_}
 use native.Mathlib.Omega.{arith}
@@ -6,8 +6,8 @@ use borrow.Author.Needs.{needs}
 use lib.ListN.{length, take}
 use Rattle.slices.specs.Written.{written}
 use Rattle.slices.proofs.Laws.WrittenLaws.{written-none, copied-on}
-use Rattle.image.proofs.put_names.Statement.{statement}
-use Rattle.image.proofs.put_names.Tie as tie
+use Rattle.image.proofs.write_names.Statement.{statement}
+use Rattle.image.proofs.write_names.Tie as tie
 
 abbrev Inv-loop : tie.InvT-loop
 Inv-loop s₀ at names m i₀ s i = (i ≤ m) × (length s ≡ length s₀) × (s ≡ written s₀ at (take i names))
@@ -29,8 +29,8 @@ returns c =
     let q : c .before .before .args .m ≡ l .i = omega arith in
     rw q (l .inv .2)
 
-pub put-names-spec : {M : Type 1} → statement M
-put-names-spec =
+pub write-names-spec : {M : Type 1} → statement M
+write-names-spec =
     tie.close
     (tie.spec
     Inv-loop

@@ -1,4 +1,4 @@
--- `print_pieces::put_opening` meets its contract: three pieces, each before the one prepend before it. Assumes nothing.
+-- `print_pieces::prepend_opening` meets its contract: three pieces, each before the one prepend before it. Assumes nothing.
 use native.Mathlib.Omega.{arith}
 use borrow.Author.Needs.{needs}
 use lib.ListN.{length-append}
@@ -6,8 +6,8 @@ use Rattle.print_text.specs.Print.{opening}
 use Rattle.print_text.specs.Inner.Pieces.{openingOf}
 use Rattle.slices.proofs.Laws.WrittenLaws.{put-none, put-before}
 use Rattle.print_text.proofs.Laws.PiecesLaws.{no-opening}
-use Rattle.print_pieces.proofs.put_opening.Statement.{statement}
-use Rattle.print_pieces.proofs.put_opening.Tie as tie
+use Rattle.print_pieces.proofs.prepend_opening.Statement.{statement}
+use Rattle.print_pieces.proofs.prepend_opening.Tie as tie
 
 prepend-requires : tie.Need-prepend-requires
 unfolding openingOf opening
@@ -15,9 +15,9 @@ prepend-requires c κs =
     let m = c .before .before in
     (omega (arith, simp length-append at (rw (m .match .keys1) at (m .before .before .pre .0))), search needs)
 
-put-digits-requires : tie.Need-put-digits-requires
+prepend-digits-requires : tie.Need-prepend-digits-requires
 unfolding openingOf opening
-put-digits-requires c κs =
+prepend-digits-requires c κs =
     let m = c .before .before .before .before .before .before in
     (omega (arith, simp length-append at (rw (m .match .keys1) at (m .before .before .pre .0))), omega arith)
 
@@ -33,18 +33,18 @@ returns c =
     let d = c .before .before .before .before .before .before .before in
     let p = d .before .before .before .before in
     let m = p .before .before .before in
-    rw (m .match .keys1) (put-before (m .before .before .pre .1) (put-before (m .before .before .pre .1) (p .prepend .ensures) (d .put-digits .ensures)) (c .before .before .prepend2 .ensures))
+    rw (m .match .keys1) (put-before (m .before .before .pre .1) (put-before (m .before .before .pre .1) (p .prepend .ensures) (d .prepend-digits .ensures)) (c .before .before .prepend2 .ensures))
 
 returns-2 : tie.Need-returns-2
 returns-2 c = rw (no-opening (c .before .before .args .kind) _ (λ e. omega arith)) (put-none _ _)
 
-pub put-opening-spec : {M : Type 1} → statement M
-put-opening-spec =
+pub prepend-opening-spec : {M : Type 1} → statement M
+prepend-opening-spec =
     tie.close
     (tie.spec
     (λ c. search needs)  -- slice-aggregate-prepend
     prepend-requires
-    put-digits-requires
+    prepend-digits-requires
     (λ c. search needs)  -- slice-aggregate-prepend-2
     prepend-requires-2
     (λ c. search needs)  -- same-length

@@ -1,4 +1,4 @@
--- `print_pieces::put_back` meets its contract: the bracket stands before what is prepend first. Assumes nothing.
+-- `print_pieces::prepend_back` meets its contract: the bracket stands before what is prepend first. Assumes nothing.
 use mathlib.Core.Path.{sym, _∙_}
 use native.Mathlib.Omega.{arith}
 use borrow.Author.Needs.{needs}
@@ -6,12 +6,12 @@ use lib.ListN.{length-append}
 use Rattle.print_text.specs.Print.{bracket}
 use Rattle.print_text.specs.Inner.Pieces.{backOf}
 use Rattle.slices.proofs.Laws.WrittenLaws.{put-before}
-use Rattle.print_pieces.proofs.put_back.Statement.{statement}
-use Rattle.print_pieces.proofs.put_back.Tie as tie
+use Rattle.print_pieces.proofs.prepend_back.Statement.{statement}
+use Rattle.print_pieces.proofs.prepend_back.Tie as tie
 
-put-behind-requires : tie.Need-put-behind-requires
+prepend-after-requires : tie.Need-prepend-after-requires
 unfolding backOf bracket
-put-behind-requires c κs = (omega (arith, simp length-append at (c .before .before .pre .0)), search needs)
+prepend-after-requires c κs = (omega (arith, simp length-append at (c .before .before .pre .0)), search needs)
 
 prepend-requires : tie.Need-prepend-requires
 unfolding backOf bracket
@@ -26,17 +26,17 @@ returns c =
     let i = c .before .before .before .before .before in
     let s = i .before .before .before .before .before .before .before in
     rw (sym (i .before .is-bracketed .ensures) ∙ i .if1 .taken)
-    (put-before (s .pre .1) (i .before .before .before .before .put-behind .ensures) (c .before .before .prepend .ensures))
+    (put-before (s .pre .1) (i .before .before .before .before .prepend-after .ensures) (c .before .before .prepend .ensures))
 
 returns-2 : tie.Need-returns-2
 unfolding backOf bracket
-returns-2 c = rw (sym (c .before .is-bracketed .ensures) ∙ c .if1 .left) (c .before .before .before .before .put-behind .ensures)
+returns-2 c = rw (sym (c .before .is-bracketed .ensures) ∙ c .if1 .left) (c .before .before .before .before .prepend-after .ensures)
 
-pub put-back-spec : {M : Type 1} → statement M
-put-back-spec =
+pub prepend-back-spec : {M : Type 1} → statement M
+prepend-back-spec =
     tie.close
     (tie.spec
-    put-behind-requires
+    prepend-after-requires
     (λ c κs. search needs)  -- is-bracketed-requires
     (λ c. search needs)  -- slice-aggregate-prepend
     prepend-requires

@@ -1,11 +1,11 @@
--- `print_pieces::put_front` meets its contract. Assumes nothing.
+-- `print_pieces::prepend_front` meets its contract. Assumes nothing.
 use mathlib.Core.Path.{sym, _∙_}
 use borrow.Author.Needs.{needs}
 use Rattle.print_text.specs.Print.{bracket}
 use Rattle.print_text.specs.Inner.Pieces.{frontOf}
 use Rattle.slices.proofs.Laws.WrittenLaws.{put-none}
-use Rattle.print_pieces.proofs.put_front.Statement.{statement}
-use Rattle.print_pieces.proofs.put_front.Tie as tie
+use Rattle.print_pieces.proofs.prepend_front.Statement.{statement}
+use Rattle.print_pieces.proofs.prepend_front.Tie as tie
 
 is-bracketed-requires : tie.Need-is-bracketed-requires
 is-bracketed-requires c κs = search needs
@@ -32,5 +32,5 @@ returns-2 : tie.Need-returns-2
 unfolding frontOf bracket
 returns-2 c = rw (sym (c .before .is-bracketed .ensures) ∙ c .if1 .left) (put-none _ _)
 
-pub put-front-spec : {M : Type 1} → statement M
-put-front-spec = tie.close (tie.spec is-bracketed-requires slice-aggregate-prepend prepend-requires same-length returns returns-2)
+pub prepend-front-spec : {M : Type 1} → statement M
+prepend-front-spec = tie.close (tie.spec is-bracketed-requires slice-aggregate-prepend prepend-requires same-length returns returns-2)

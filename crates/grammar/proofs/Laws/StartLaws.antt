@@ -21,7 +21,7 @@ use Rattle.tokens.proofs.Laws.TokenLaws.{tokens-are, left-some}
 use Rattle.rules.specs.Rule.{named}
 use Rattle.grammar.specs.Grammar as grammar
 use Rattle.grammar.specs.Grammar.{tokenKind, openSign, aLeaf, aGroup, aList, refuse, startBy, primaryStart, functionOf}
-use Rattle.grammar.specs.Inner.Heads.{leafOf, joinOf, headOf, headNext, left, Begins}
+use Rattle.grammar.specs.Inner.Starts.{leafOf, joinOf, headOf, headNext, left, Begins}
 use Rattle.grammar.proofs.Laws.TokenListLaws.{tokens-next}
 use Rattle.grammar.specs.declared.Test.{Test}
 use Rattle.grammar.specs.declared.Combinator.{Combinator}

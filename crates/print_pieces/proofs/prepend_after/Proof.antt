@@ -1,12 +1,12 @@
--- `print_pieces::put_behind` meets its contract: each kind has its own line, and the others prepend nothing. Assumes nothing.
+-- `print_pieces::prepend_after` meets its contract: each kind has its own line, and the others prepend nothing. Assumes nothing.
 use native.Mathlib.Omega.{arith}
 use borrow.Author.Needs.{needs}
 use Rattle.print_text.specs.Print.{behind}
 use Rattle.print_text.specs.Inner.Pieces.{behindOf}
 use Rattle.slices.proofs.Laws.WrittenLaws.{put-none}
 use Rattle.print_text.proofs.Laws.PiecesLaws.{none-behind}
-use Rattle.print_pieces.proofs.put_behind.Statement.{statement}
-use Rattle.print_pieces.proofs.put_behind.Tie as tie
+use Rattle.print_pieces.proofs.prepend_after.Statement.{statement}
+use Rattle.print_pieces.proofs.prepend_after.Tie as tie
 
 prepend-requires : tie.Need-prepend-requires
 unfolding behindOf behind
@@ -62,8 +62,8 @@ returns-5 c =
 returns-6 : tie.Need-returns-6
 returns-6 c = rw (none-behind (c .before .before .before .args .kind) {last = c .before .before .before .args .last} (λ e. omega arith) (λ h k. absurd (omega arith))) (put-none _ _)
 
-pub put-behind-spec : {M : Type 1} → statement M
-put-behind-spec =
+pub prepend-after-spec : {M : Type 1} → statement M
+prepend-after-spec =
     tie.close
     (tie.spec
     (λ c. search needs)  -- slice-aggregate-prepend

@@ -1,4 +1,4 @@
--- `image::put_tags` meets its contract: after i turns the first i tags are written. Assumes nothing.
+-- `image::write_tags` meets its contract: after i turns the first i tags are written. Assumes nothing.
 use mathlib.Core.Path.{_≡_, refl, _∙_}
 use Prim.Native.Nat.{_-_, _≤_}
 use native.Mathlib.Omega.{arith}
@@ -8,8 +8,8 @@ use Rattle.slices.specs.Written.{written}
 use Rattle.little_endian.specs.Bytes.{packed}
 use Rattle.slices.proofs.Laws.WrittenLaws.{written-none}
 use Rattle.little_endian.proofs.Laws.NumberWrittenLaws.{packed-on}
-use Rattle.image.proofs.put_tags.Statement.{statement}
-use Rattle.image.proofs.put_tags.Tie as tie
+use Rattle.image.proofs.write_tags.Statement.{statement}
+use Rattle.image.proofs.write_tags.Tie as tie
 
 abbrev Inv-loop : tie.InvT-loop
 Inv-loop s₀ at tags n i₀ s i = (i ≤ n) × (length s ≡ length s₀) × (s ≡ written s₀ at (packed 4 (take i tags)))
@@ -36,8 +36,8 @@ returns c =
     let q : c .before .before .before .before .args .n ≡ l .i = omega arith in
     rw q (l .inv .2)
 
-pub put-tags-spec : {M : Type 1} → statement M
-put-tags-spec =
+pub write-tags-spec : {M : Type 1} → statement M
+write-tags-spec =
     tie.close
     (tie.spec
     Inv-loop

@@ -1,4 +1,4 @@
--- `image::put_args` meets its contract: after i turns the first i arguments are written. Assumes nothing.
+-- `image::write_args` meets its contract: after i turns the first i arguments are written. Assumes nothing.
 use mathlib.Core.Path.{_≡_, refl, _∙_}
 use Prim.Native.Nat.{_-_, _≤_}
 use native.Mathlib.Omega.{arith}
@@ -8,8 +8,8 @@ use Rattle.slices.specs.Written.{written}
 use Rattle.little_endian.specs.Bytes.{packed}
 use Rattle.slices.proofs.Laws.WrittenLaws.{written-none}
 use Rattle.little_endian.proofs.Laws.NumberWrittenLaws.{packed-on}
-use Rattle.image.proofs.put_args.Statement.{statement}
-use Rattle.image.proofs.put_args.Tie as tie
+use Rattle.image.proofs.write_args.Statement.{statement}
+use Rattle.image.proofs.write_args.Tie as tie
 
 abbrev Inv-loop : tie.InvT-loop
 Inv-loop s₀ at args n i₀ s i = (i ≤ n) × (length s ≡ length s₀) × (s ≡ written s₀ at (packed 8 (take i args)))
@@ -33,8 +33,8 @@ returns c =
     let q : c .before .before .before .before .args .n ≡ l .i = omega arith in
     rw q (l .inv .2)
 
-pub put-args-spec : {M : Type 1} → statement M
-put-args-spec =
+pub write-args-spec : {M : Type 1} → statement M
+write-args-spec =
     tie.close
     (tie.spec
     Inv-loop

@@ -1,4 +1,4 @@
--- `print_pieces::put_leaf` meets its contract: each kind has its own pieces, each prepend before the one prepend before it. Assumes nothing.
+-- `print_pieces::prepend_leaf` meets its contract: each kind has its own pieces, each prepend before the one prepend before it. Assumes nothing.
 use native.Mathlib.Omega.{arith}
 use borrow.Author.Needs.{needs}
 use lib.ListN.{length-append}
@@ -8,8 +8,8 @@ use Rattle.print_text.specs.Print.{leafText}
 use Rattle.print_text.specs.Inner.Pieces.{leafTextOf}
 use Rattle.slices.proofs.Laws.WrittenLaws.{put-none, put-before}
 use Rattle.print_text.proofs.Laws.PiecesLaws.{no-leaf-text}
-use Rattle.print_pieces.proofs.put_leaf.Statement.{statement}
-use Rattle.print_pieces.proofs.put_leaf.Tie as tie
+use Rattle.print_pieces.proofs.prepend_leaf.Statement.{statement}
+use Rattle.print_pieces.proofs.prepend_leaf.Tie as tie
 
 name-of-requires : tie.Need-name-of-requires
 name-of-requires c κs = c .before .before .before .before .pre .0 (c .before .match .keys1)
@@ -44,9 +44,9 @@ prepend-requires-4 c κs =
     let m = c .before .before in
     (omega (arith, simp length-append at (rw (m .match .keys3) at (m .before .before .before .pre .1))), search needs)
 
-put-digits-requires : tie.Need-put-digits-requires
+prepend-digits-requires : tie.Need-prepend-digits-requires
 unfolding leafTextOf leafText meaning
-put-digits-requires c κs =
+prepend-digits-requires c κs =
     let m = c .before .before .before .before .before .before in
     (omega (arith, simp length-append at (rw (m .match .keys3) at (m .before .before .before .pre .1))), omega arith)
 
@@ -78,15 +78,15 @@ returns-3 c =
     let p = d .before .before .before .before in
     let m = p .before .before .before in
     let l = m .before .before .before .pre .2 in
-    rw (m .match .keys3) (put-before l (put-before l (p .prepend4 .ensures) (d .put-digits .ensures)) (c .before .before .prepend5 .ensures))
+    rw (m .match .keys3) (put-before l (put-before l (p .prepend4 .ensures) (d .prepend-digits .ensures)) (c .before .before .prepend5 .ensures))
 
 returns-4 : tie.Need-returns-4
 returns-4 c =
     let s = c .before .before .before in
     rw (no-leaf-text (s .args .image .now) (s .args .n) (s .args .kind) (s .args .arg) (above-leaf (s .args .kind) (omega arith))) (put-none _ _)
 
-pub put-leaf-spec : {M : Type 1} → statement M
-put-leaf-spec =
+pub prepend-leaf-spec : {M : Type 1} → statement M
+prepend-leaf-spec =
     tie.close
     (tie.spec
     name-of-requires
@@ -98,7 +98,7 @@ put-leaf-spec =
     prepend-requires-3
     (λ c. search needs)  -- slice-aggregate-prepend-3
     prepend-requires-4
-    put-digits-requires
+    prepend-digits-requires
     (λ c. search needs)  -- slice-aggregate-prepend-4
     prepend-requires-5
     (λ c. search needs)  -- same-length
