@@ -8,6 +8,7 @@ use lib.ListN.{length, take, set}
 use Rattle.slices.specs.Text.{part}
 use Rattle.slices.proofs.Laws.TextLaws.{part-length}
 use Rattle.rules.specs.Rule.{Leaf, named, olderThan, readable, Join}
+use Rattle.image.specs.Kinds.{namedKind}
 use Rattle.image.specs.Encode.{leafKind, joinKind, tag, leafArg, joinArg, leafName, tags, args, names}
 use Rattle.grammar.specs.Inner.Starts.{leafOf}
 use Rattle.grammar.specs.declared.Test.{Test}
@@ -38,7 +39,7 @@ leaf-written l {next} {n} {m} {b} {a} lt la p q w e =
     }
 
 pub name-written : {s : List ℕ} {start end next n m : ℕ} {b a : Arrays} {r : ParseEnd} → NameRoom s start end n m b
-    → a .tags ≡ set (b .tags) n (tag 0 1) → a .args ≡ set (b .args) n (m * 65536 + (end - start))
+    → a .tags ≡ set (b .tags) n (tag namedKind 1) → a .args ≡ set (b .args) n (m * 65536 + (end - start))
     → take (m + (end - start)) (a .names) ≡ take m (b .names) ++ part s start end
     → r ≡ Done next (n + 1) (m + (end - start)) → Written (named (part s start end)) next n m b a r
 name-written {s} {start} {end} {next} {n} {m} {b} {a} room p q w e =
