@@ -11,53 +11,30 @@ use Rattle.verdict.specs.declared.Verdict.the-variants.{Pass, Refused as NotPas
 use Rattle.print.specs.declared.Printing.{Printing}
 use Rattle.print.specs.declared.Printing.the-variants.{Printed, Refused as Unprinted}
 
--- a number and a value
-pub record Answer : Type 0 where
-  pub number : ℕ
-  pub value : ℕ
-
-abbrev pub accepted : ℕ → Answer
-accepted value = record { number = 0; value = value }
-
-abbrev pub refusedBy : Refusal → Answer
-refusedBy f = record { number = f .number; value = f .place }
-
--- "the length written"
-abbrev pub readAnswer : Reading → Answer
-readAnswer (Read size) = accepted size
-readAnswer (Unread f) = refusedBy f
-
--- "1 evict, 0 keep"
-abbrev pub decideAnswer : Decision → Answer
-decideAnswer Evict = accepted 1
-decideAnswer Keep = accepted 0
-decideAnswer (Undecided f) = refusedBy f
-
--- "0 for pass"
-abbrev pub verdictAnswer : Verdict → Answer
-verdictAnswer Pass = accepted 0
-verdictAnswer (NotPassed f) = refusedBy f
-
--- "the length written"
-abbrev pub printAnswer : Printing → Answer
-printAnswer (Printed size) = accepted size
-printAnswer (Unprinted f) = refusedBy f
-
--- both as one number; the values of the calls are below 2^32 and read back (AnswersLaws)
+-- a number and a value as one; the values of the calls are below 2^32, so that both are read back (AnswersLaws)
 abbrev pub packed : ℕ → ℕ → ℕ
 packed number value = number * 2 ^ 32 + value % 2 ^ 32
 
-abbrev pub packedAnswer : Answer → ℕ
-packedAnswer a = packed (a .number) (a .value)
+abbrev pub ofRefusal : Refusal → ℕ
+ofRefusal f = packed (f .number) (f .place)
 
+-- "the length written"
 abbrev pub ofReading : Reading → ℕ
-ofReading r = packedAnswer (readAnswer r)
+ofReading (Read size) = packed 0 size
+ofReading (Unread f) = ofRefusal f
 
+-- "1 evict, 0 keep"
 abbrev pub ofDecision : Decision → ℕ
-ofDecision d = packedAnswer (decideAnswer d)
+ofDecision Evict = packed 0 1
+ofDecision Keep = packed 0 0
+ofDecision (Undecided f) = ofRefusal f
 
+-- "0 for pass"
 abbrev pub ofVerdict : Verdict → ℕ
-ofVerdict v = packedAnswer (verdictAnswer v)
+ofVerdict Pass = packed 0 0
+ofVerdict (NotPassed f) = ofRefusal f
 
+-- "the length written"
 abbrev pub ofPrinting : Printing → ℕ
-ofPrinting p = packedAnswer (printAnswer p)
+ofPrinting (Printed size) = packed 0 size
+ofPrinting (Unprinted f) = ofRefusal f

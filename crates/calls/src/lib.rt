@@ -2,10 +2,9 @@
 ghost use mathlib.Core.Path.{_≡_};
 ghost use Prim.Native.Nat.{_≤_};
 ghost use lib.ListN.{length};
-ghost use Rattle.classes.specs.Class.{faults};
-ghost use Rattle.tokens.specs.Token.{tokensFrom};
+ghost use Rattle.classes.specs.Inner.ClassTable.{IsClassTable};
 ghost use Rattle.grammar.specs.Grammar.{olderThanStart, readableStart, atLeastStart, callStart};
-ghost use Rattle.grammar.specs.Inner.Starts.{left, Begins};
+ghost use Rattle.grammar.specs.Inner.Starts.{BeginsAt};
 use decimal::Parsed;
 use decimal::count::parse_count;
 use durations::duration::parse_duration;
@@ -21,8 +20,8 @@ use tokens::word_of;
 
 // `older_than(`: a word is due, then `)`, and then the word must be a duration.
 fn older_than_start(text: &[u8], at: usize, class: &[u8; 256]) -> PrimaryStart
-    requires { ⌜ faults (now class) ≡ 0 ⌝ }
-    ensures { λ r. ⌜ Begins (now (text .entry)) at at (left (now (text .entry)) at) r (olderThanStart (now (text .entry)) (tokensFrom (now (text .entry)) at)) ⌝ }
+    requires { ⌜ IsClassTable (now class) ⌝ }
+    ensures { λ r. ⌜ BeginsAt (now (text .entry)) at r (olderThanStart (now (text .entry))) ⌝ }
 {
     let t = token_at(text, at, class);
     let Token::Word {
@@ -54,8 +53,8 @@ fn older_than_start(text: &[u8], at: usize, class: &[u8; 256]) -> PrimaryStart
 
 // `readable(`: a word is due, which must be a count, then `)`.
 fn readable_start(text: &[u8], at: usize, class: &[u8; 256]) -> PrimaryStart
-    requires { ⌜ faults (now class) ≡ 0 ⌝ }
-    ensures { λ r. ⌜ Begins (now (text .entry)) at at (left (now (text .entry)) at) r (readableStart (now (text .entry)) (tokensFrom (now (text .entry)) at)) ⌝ }
+    requires { ⌜ IsClassTable (now class) ⌝ }
+    ensures { λ r. ⌜ BeginsAt (now (text .entry)) at r (readableStart (now (text .entry))) ⌝ }
 {
     let t = token_at(text, at, class);
     let Token::Word {
@@ -87,8 +86,8 @@ fn readable_start(text: &[u8], at: usize, class: &[u8; 256]) -> PrimaryStart
 
 // `at_least(`: a word is due, which must be a count, then a comma; its list follows.
 fn at_least_start(text: &[u8], place: usize, at: usize, class: &[u8; 256]) -> PrimaryStart
-    requires { ⌜ faults (now class) ≡ 0 ⌝ }
-    ensures { λ r. ⌜ Begins (now (text .entry)) at at (left (now (text .entry)) at) r (atLeastStart (now (text .entry)) place (tokensFrom (now (text .entry)) at)) ⌝ }
+    requires { ⌜ IsClassTable (now class) ⌝ }
+    ensures { λ r. ⌜ BeginsAt (now (text .entry)) at r (atLeastStart (now (text .entry)) place) ⌝ }
 {
     let t = token_at(text, at, class);
     let Token::Word {
@@ -127,8 +126,8 @@ pub fn call_start(
     at: usize,
     class: &[u8; 256],
 ) -> PrimaryStart
-    requires { ⌜ (faults (now class) ≡ 0) × (at ≤ length (now text)) ⌝ }
-    ensures { λ r. ⌜ Begins (now (text .entry)) at at (left (now (text .entry)) at) r (callStart (now (text .entry)) place f (tokensFrom (now (text .entry)) at)) ⌝ }
+    requires { ⌜ IsClassTable (now class) × (at ≤ length (now text)) ⌝ }
+    ensures { λ r. ⌜ BeginsAt (now (text .entry)) at r (callStart (now (text .entry)) place f) ⌝ }
 {
     match f {
         Function::OlderThan => older_than_start(text, at, class),

@@ -7,8 +7,7 @@ ghost use Rattle.rules.specs.Rule.{size as sizeOf};
 ghost use Rattle.image.specs.Decode.{cellAt};
 ghost use Rattle.image.specs.Inner.Standing.{EncodedAt};
 ghost use Rattle.image.specs.Inner.Subtree.{ValidSubtree};
-ghost use Rattle.store_table.specs.Stores.{countIn};
-ghost use Rattle.store_table.specs.Inner.Index.{Indexed};
+ghost use Rattle.store_table.specs.Inner.Index.{IndexedAll};
 ghost use Rattle.verdict.specs.Check.{checkRule};
 ghost use Rattle.verdict.specs.Inner.Grades.{WithStores};
 use evaluate::evaluate;
@@ -30,7 +29,7 @@ fn check_names(
     slots: &[u8; 512],
     grades: &mut [u8],
 ) -> Verdict
-    requires { ⌜ ValidSubtree (now image) n 0 n × ((n ≤ length (now grades)) × (WithStores (now stores) × Indexed (now stores) (countIn (now stores)) (now starts) (now slots))) ⌝ }
+    requires { ⌜ ValidSubtree (now image) n 0 n × ((n ≤ length (now grades)) × (WithStores (now stores) × IndexedAll (now stores) (now starts) (now slots))) ⌝ }
     ensures { λ r. ⌜ ((ρ : Rule) → sizeOf ρ ≡ n → EncodedAt ρ (cellAt (now (image .entry)) n) 0 → r ≡ checkRule ρ (now (stores .entry))) ⌝ }
 {
     if let Unknown::At(i) = grade_leaves(image, n, stores, starts, slots, grades) {

@@ -1,11 +1,8 @@
--- The class of a byte, by document 01's rule, and how far a table of 256 entries is from it.
--- Assumes nothing.
-use Prim.Native.Nat.{ℕ, zero, suc}
+-- The class of a byte, by document 01's rule. Assumes nothing.
+use Prim.Native.Nat.{ℕ}
 use Prim.Native.Char.{code}
 use mathlib.Core.Bool.{Bool, cond, _||_}
-use mathlib.Core.List.{List}
 use lib.Dec.{eqb, leb}
-use lib.ListN.{getD}
 use Rattle.ascii.specs.Letters.{within, isDigit, isLetter}
 
 -- the classes' numbers, in the order of the rule
@@ -70,14 +67,3 @@ classOf b =
 unfoldable pub ofClass : ℕ → ℕ → Bool
 unfolding classOf
 ofClass k b = eqb (classOf b) k
-
--- how many of a table's first n entries are not the class of their place
-unfoldable pub faultsTo : ℕ → List ℕ → ℕ
-unfolding classOf
-faultsTo zero l = 0
-faultsTo (suc k) l = let n = faultsTo k l in cond (eqb (getD l k 0) (classOf k)) n (suc n)
-
--- how many of its 256 entries
-unfoldable pub faults : List ℕ → ℕ
-unfolding faultsTo
-faults l = faultsTo 256 l

@@ -1,7 +1,8 @@
 // The class of a byte, from a constant table.
 ghost use mathlib.Core.Path.{_≡_};
 ghost use Rattle.slices.specs.Text.{runEnd};
-ghost use Rattle.classes.specs.Class.{faults, classOf, ofClass};
+ghost use Rattle.classes.specs.Class.{classOf, ofClass};
+ghost use Rattle.classes.specs.Inner.ClassTable.{IsClassTable};
 
 // The classes, numbered in the order of the class rule.
 pub const BLANK: u8 = 0;
@@ -285,14 +286,14 @@ const CLASSES: [u8; 256] = [
 
 // The table, by value: an entry point copies it once and lends it to the functions below it.
 pub fn table() -> [u8; 256]
-    ensures { λ r. ⌜ faults r ≡ 0 ⌝ }
+    ensures { λ r. ⌜ IsClassTable r ⌝ }
 {
     CLASSES
 }
 
 // The class of a byte, looked up in a table without faults.
 pub fn class_at(class: &[u8; 256], b: u8) -> u8
-    requires { ⌜ faults (now class) ≡ 0 ⌝ }
+    requires { ⌜ IsClassTable (now class) ⌝ }
     ensures { λ r. ⌜ r ≡ classOf b ⌝ }
 {
     class[b as usize]
@@ -300,7 +301,7 @@ pub fn class_at(class: &[u8; 256], b: u8) -> u8
 
 // Where the bytes of one class, from a position of the text on, end.
 pub fn class_end(text: &[u8], at: usize, k: u8, class: &[u8; 256]) -> usize
-    requires { ⌜ faults (now class) ≡ 0 ⌝ }
+    requires { ⌜ IsClassTable (now class) ⌝ }
     ensures { λ r. ⌜ r ≡ runEnd (ofClass k) (now (text .entry)) at ⌝ }
 {
     let mut i = at;

@@ -3,8 +3,9 @@ ghost use mathlib.Core.Path.{_≡_};
 ghost use mathlib.Core.List.{List};
 ghost use Prim.Native.Nat.{_<_, ℕ};
 ghost use lib.ListN.{length, set};
-ghost use Rattle.store_table.specs.Stores.{TableInBounds, countIn, entriesIn, allNames, twinOf, readyCount};
-ghost use Rattle.store_table.specs.Inner.Index.{Indexed, Blank, Marked};
+ghost use Rattle.store_table.specs.Stores.{entriesIn, allNames, twinOf, readyCount};
+ghost use Rattle.store_table.specs.Inner.Bounds.{TableInBounds};
+ghost use Rattle.store_table.specs.Inner.Index.{Blank, Marked, IndexedAll};
 ghost use Rattle.store_table.specs.Names.{has};
 use lookup::find;
 use lookup::position;
@@ -32,7 +33,7 @@ pub fn mark_confirmed(
     slots: &[u8; 512],
     marks: &mut [u8; 64],
 )
-    requires { ⌜ TableInBounds (now stores) × (TableInBounds (now list) × ((twinOf (entriesIn (now stores)) ≡ Twin.No) × (Indexed (now stores) (countIn (now stores)) (now starts) (now slots) × Blank (now marks)))) ⌝ }
+    requires { ⌜ TableInBounds (now stores) × (TableInBounds (now list) × ((twinOf (entriesIn (now stores)) ≡ Twin.No) × (IndexedAll (now stores) (now starts) (now slots) × Blank (now marks)))) ⌝ }
     ensures { λ _. ⌜ Marked (entriesIn (now (stores .entry))) (allNames (entriesIn (now (list .entry)))) (now (marks .exit)) ⌝ }
 {
     let count = count_of(list);
@@ -76,7 +77,7 @@ pub fn is_confirmed(
     slots: &[u8; 512],
     marks: &[u8; 64],
 ) -> bool
-    requires { ⌜ TableInBounds (now stores) × (TableInBounds (now list) × (Indexed (now stores) (countIn (now stores)) (now starts) (now slots) × Marked (entriesIn (now stores)) (allNames (entriesIn (now list))) (now marks))) ⌝ }
+    requires { ⌜ TableInBounds (now stores) × (TableInBounds (now list) × (IndexedAll (now stores) (now starts) (now slots) × Marked (entriesIn (now stores)) (allNames (entriesIn (now list))) (now marks))) ⌝ }
     ensures { λ r. ⌜ r ≡ has (now (name .entry)) (allNames (entriesIn (now (list .entry)))) ⌝ }
 {
     match find(name, stores, starts, slots) {

@@ -1,4 +1,4 @@
--- The tests that come before an answer, in document 01's order: the first that is due refuses. Assumes nothing.
+-- The tests that come before an answer, in document 01's order: the first that fails refuses. Assumes nothing.
 use Prim.Native.Nat.{ℕ}
 use mathlib.Core.Bool.{cond}
 use mathlib.Core.List.{List, [], _∷_}
@@ -9,7 +9,7 @@ use Rattle.store_table.specs.Stores.{isTable, isList, entriesIn, twinOf}
 use Rattle.store_table.specs.declared.Twin.{Twin}
 use Rattle.store_table.specs.declared.Twin.the-variants.{No, At}
 
--- the first refusal of these tests, from left to right; the answer where none is due
+-- the first refusal of these tests, from left to right, or else the answer
 abbrev pub unlessDue {ℓ} : {A : Type ℓ} → (Refusal → A) → List (Option Refusal) → A → A
 unlessDue refuse [] answer = answer
 unlessDue refuse (none ∷ tests) answer = unlessDue refuse tests answer

@@ -15,7 +15,7 @@ unfolding isDigit
 allDigits [] = true
 allDigits (b ∷ bs) = isDigit b && allDigits bs
 
--- digits behind those of n, that write at most 2^64 - 1
+-- digits after those of n, that write at most 2^64 - 1
 unfoldable pub countFrom : ℕ → List ℕ → Parsed
 unfolding allDigits decimalFrom
 countFrom n ds = cond (allDigits ds && ltb (decimalFrom n ds) (2 ^ 64)) (Value (decimalFrom n ds)) Invalid

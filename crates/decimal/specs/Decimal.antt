@@ -7,7 +7,7 @@ use mathlib.Core.List.{List, [], _∷_}
 abbrev pub digitValue : ℕ → ℕ
 digitValue b = b - code "0"
 
--- the number that digits write behind those of n
+-- the number that digits write after those of n
 unfoldable pub decimalFrom : ℕ → List ℕ → ℕ
 decimalFrom n [] = n
 decimalFrom n (b ∷ bs) = decimalFrom (n * 10 + digitValue b) bs

@@ -2,7 +2,7 @@
 ghost use mathlib.Core.Path.{_≡_};
 ghost use Prim.Native.Nat.{_≤_, _+_};
 ghost use lib.ListN.{length};
-ghost use Rattle.slices.specs.Written.{WrittenAt};
+ghost use Rattle.slices.specs.Text.{WrittenAt};
 ghost use Rattle.decimal.specs.Digits.{digitsOf};
 
 // How many digits a number has.

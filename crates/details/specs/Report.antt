@@ -2,16 +2,16 @@
 use Prim.Native.Nat.{ℕ, suc, min}
 use mathlib.Core.Bool.{cond}
 use mathlib.Core.List.{List, [], _∷_, _++_}
-use lib.Dec.{eqb, ltb}
+use lib.Dec.{eqb}
+use lib.ListN.{getD}
 use Rattle.slices.specs.Text.{bytes}
 use Rattle.ascii.specs.Letters.{within}
 use Rattle.refusals.specs.declared.Refusal.{Refusal}
 use Rattle.refusals.specs.Refusals.{foreignByte, tooDeep, twinName, unknownStore, unconfirmed, archiveOnly}
 use Rattle.decimal.specs.Digits.{digitsOf}
 use Rattle.lines.specs.Lines.{lineEnd, meaningLine, textEnd, shownAll, markedLine}
-use Rattle.rules.specs.Rule.{named, olderThan, readable, size}
-use Rattle.image.specs.Encode.{encode}
-use Rattle.image.specs.Decode.{Meaning, aLeaf, aJoin, nothing, cellAt}
+use Rattle.rules.specs.Rule.{Rule, leaf, node, Rules, nil, more}
+use Rattle.image.specs.Encode.{leafName}
 use Rattle.grammar.specs.Reading.{Read, rule, refused, readOf}
 use Rattle.store_table.specs.Stores.{Entry, writeOnlyNames}
 use Rattle.verdict.specs.declared.Verdict.{Verdict}
@@ -27,16 +27,19 @@ verdictLine (Refused f) = refusalLine f
 
 -- ---- what a refusal is about
 
--- the name of node i of a rule's image, if it has one
-abbrev pub nameIn : Meaning → List ℕ
-nameIn (aLeaf (named w)) = w
-nameIn (aLeaf (olderThan d)) = []
-nameIn (aLeaf (readable k)) = []
-nameIn (aJoin j) = []
-nameIn nothing = []
+-- the name of each node, in the order of the image; empty where it has none
+unfoldable mutual
+  pub nodeNames : Rule → List (List ℕ)
+  nodeNames (leaf l) = leafName l ∷ []
+  nodeNames (node j rs r) = (nodeNamesAll rs ++ nodeNames r) ++ ([] ∷ [])
 
+  pub nodeNamesAll : Rules → List (List ℕ)
+  nodeNamesAll nil = []
+  nodeNamesAll (more rs r) = nodeNamesAll rs ++ nodeNames r
+
+-- the name of node i of what a text reads as
 abbrev pub nodeName : Read → ℕ → List ℕ
-nodeName (rule r) i = cond (ltb i (size r)) (nameIn (cellAt (encode r) (size r) i .what)) []
+nodeName (rule r) i = getD (nodeNames r) i []
 nodeName (refused f) i = []
 
 -- the age at which 21 and 22 are tested
@@ -52,7 +55,7 @@ unfolding shownAll
 confirmedLines [] = []
 confirmedLines (n ∷ ns) = confirmedLine n ++ confirmedLines ns
 
--- 3 to 15: the line of the text, and a mark under the place, or behind the text where it ends too early; 18: which argument; 20: the
+-- 3 to 15: the line of the text, and a mark under the place, or at the text's end where it ends too early; 18: which argument; 20: the
 -- name; 21 and 22: the confirmations and the age at which the rule says evict
 unfoldable pub detail : List ℕ → List Entry → Refusal → List ℕ
 unfolding markedLine confirmedLines
@@ -65,17 +68,11 @@ detail text es f =
     (cond (eqb n archiveOnly) (confirmedLines (writeOnlyNames es) ++ ageLine)
     []))))
 
--- ---- the lines behind the first
-
-abbrev pub unchecked : List ℕ
-unchecked = bytes "the rule reads; no stores are given to check it against" ++ lineEnd
-
-abbrev pub checked : List ℕ
-checked = bytes "at any age, the rule says evict only if a readable store has confirmed" ++ lineEnd
+-- ---- the lines after the first
 
 abbrev pub passLine : List Entry → List ℕ
-passLine [] = unchecked
-passLine (e ∷ es) = checked
+passLine [] = bytes "the rule reads; no stores are given to check it against" ++ lineEnd
+passLine (e ∷ es) = bytes "at any age, the rule says evict only if a readable store has confirmed" ++ lineEnd
 
 abbrev pub explained : List ℕ → List Entry → Verdict → List ℕ
 explained text es Pass = passLine es

@@ -1,9 +1,10 @@
 // What a refusal is about: a place in the text, a store, the age at which the rule evicts.
 ghost use Prim.Native.Nat.{min, _+_, _≤_};
 ghost use lib.ListN.{length};
-ghost use Rattle.slices.specs.Written.{WrittenAt};
+ghost use Rattle.slices.specs.Text.{WrittenAt};
 ghost use Rattle.grammar.specs.Reading.{readOf};
-ghost use Rattle.store_table.specs.Stores.{TableInBounds, entriesIn, writeOnlyNames};
+ghost use Rattle.store_table.specs.Stores.{entriesIn, writeOnlyNames};
+ghost use Rattle.store_table.specs.Inner.Bounds.{TableInBounds};
 ghost use Rattle.lines.specs.Lines.{textEnd, markedLine, shownAll};
 ghost use Rattle.details.specs.Report.{nodeName, ageLine, confirmedLine, confirmedLines, detail};
 ghost use Rattle.details.specs.Inner.Room.{Room};
@@ -108,21 +109,21 @@ pub fn append_detail(page: &mut [u8], at: usize, text: &[u8], stores: &[u8], f: 
     let number = f.number;
     let place = f.place;
     match number {
-        3..=15 => append_place(page, at, text, place),
-        18 => {
+        refusals::FOREIGN_BYTE..=refusals::TOO_DEEP => append_place(page, at, text, place),
+        refusals::TWIN_NAME => {
             let word_end = append(page, at, b"argument ");
             let digits_end = append_digits(page, word_end, place as u64 + 1);
             append(page, digits_end, b"\n")
         }
-        20 => {
+        refusals::UNKNOWN_STORE => {
             let name_end = append_node(page, at, text, place);
             append(page, name_end, b"\n")
         }
-        21 => {
+        refusals::UNCONFIRMED => {
             let nothing_end = append(page, at, b"confirmed: nothing\n");
             append_age(page, nothing_end)
         }
-        22 => {
+        refusals::ARCHIVE_ONLY => {
             let names_end = append_write_only(page, at, stores);
             append_age(page, names_end)
         }

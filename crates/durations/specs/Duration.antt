@@ -1,11 +1,10 @@
 -- Durations, as document 01's paragraph and document 02's Job 1 lay them down. Assumes nothing.
-use Prim.Native.Nat.{ℕ, _+_, _*_, _≤_}
+use Prim.Native.Nat.{ℕ, _+_, _*_}
 use Prim.Native.String.{String}
-use mathlib.Core.Path.{_≡_}
 use mathlib.Core.Bool.{Bool, cond, not, _&&_, _||_}
 use mathlib.Core.List.{List, [], _∷_}
 use lib.Dec.{leb, ltb}
-use lib.ListN.{length, take, getD}
+use lib.ListN.{length}
 use Rattle.slices.specs.Text.{bytes, part, runEnd}
 use Rattle.ascii.specs.Letters.{isDigit, equal, equalBy}
 use Rattle.classes.specs.Class.{ofClass, blank}
@@ -14,7 +13,6 @@ use Rattle.decimal.specs.declared.Parsed.{Parsed}
 use Rattle.decimal.specs.declared.Parsed.the-variants.{Value, Invalid}
 use Rattle.durations.specs.declared.duration.Part.{Part}
 use Rattle.durations.specs.declared.duration.Part.the-variants.{Of, Not}
-use Rattle.durations.specs.declared.unit.TimeUnit.{TimeUnit}
 
 -- a unit's name and its milliseconds
 pub record NamedUnit : Type 0 where
@@ -29,22 +27,12 @@ unit name ms = record { name = bytes name; milliseconds = ms }
 abbrev pub units : List NamedUnit
 units = unit "w" 604_800_000 ∷ unit "d" 86_400_000 ∷ unit "h" 3_600_000 ∷ unit "m" 60_000 ∷ unit "s" 1_000 ∷ unit "ms" 1 ∷ []
 
--- the unit of a rank, counted from 0
-abbrev pub unitAt : ℕ → NamedUnit
-unitAt rank = getD units rank (unit "" 0)
-
--- the program's form of a unit
-pub record IsUnit (u : NamedUnit) (t : TimeUnit) : Type 0 where
-  pub len : t .len ≤ 2
-  pub name : take (t .len) (t .name) ≡ u .name
-  pub milliseconds : t .milliseconds ≡ u .milliseconds
-
 -- a byte of a unit's name: no digit, with which the next part begins, and no blank
 unfoldable pub isUnitByte : ℕ → Bool
 unfolding isDigit ofClass
 isUnitByte b = not (isDigit b || ofClass blank b)
 
--- of what stands at a position of the word w: where its digits end
+-- of the part at a position of the word w: where its digits end
 unfoldable pub digitsEnd : List ℕ → ℕ → ℕ
 unfolding isDigit runEnd
 digitsEnd w at = runEnd isDigit w at
@@ -71,12 +59,12 @@ unfoldable pub amountOf : NamedUnit → List ℕ → ℕ → ℕ
 unfolding digitsEnd part decimalFrom
 amountOf u w at = decimal (part w at (digitsEnd w at)) * u .milliseconds
 
--- "optional blanks between them": where the next part is due
+-- "optional blanks between them": where the next part begins
 unfoldable pub nextPart : List ℕ → ℕ → ℕ
 unfolding unitEnd ofClass
 nextPart w at = runEnd (ofClass blank) w (unitEnd w at)
 
--- a part of this unit at a position: its milliseconds, and where the next part is due
+-- a part of this unit at a position: its milliseconds, and where the next part begins
 unfoldable pub partAt : NamedUnit → List ℕ → ℕ → Part
 unfolding isPart amountOf nextPart
 partAt u w at = cond (isPart u w at) (Of (amountOf u w at) (nextPart w at)) Not
@@ -85,7 +73,7 @@ abbrev pub plus : ℕ → Parsed → Parsed
 plus n (Value m) = Value (n + m)
 plus n Invalid = Invalid
 
--- a part, and those behind it unless the word ends there; where there is none, the later units' parts from the same position
+-- a part, and those after it unless the word ends there; where there is none, the later units' parts from the same position
 abbrev pub partThen : Part → ℕ → ℕ → (ℕ → Parsed) → Parsed
 partThen (Of n next) len at later = cond (ltb next len) (plus n (later next)) (Value n)
 partThen Not len at later = later at

@@ -1,1 +1,2 @@
 pub mod Duration
+pub mod Inner

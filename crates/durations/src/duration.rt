@@ -4,9 +4,10 @@ ghost use Prim.Native.Nat.{_+_, _≤_, _<_};
 ghost use lib.ListN.{length};
 ghost use Rattle.ascii.specs.Letters.{isDigit};
 ghost use Rattle.slices.specs.Text.{runEnd, part};
-ghost use Rattle.classes.specs.Class.{faults};
+ghost use Rattle.classes.specs.Inner.ClassTable.{IsClassTable};
 ghost use Rattle.decimal.specs.Decimal.{decimal};
-ghost use Rattle.durations.specs.Duration.{isUnitByte, units, unitAt, partAt, durationOf};
+ghost use Rattle.durations.specs.Duration.{isUnitByte, units, partAt, durationOf};
+ghost use Rattle.durations.specs.Inner.Units.{unitAt};
 use crate::unit::UNITS;
 use crate::unit::time_unit;
 use ascii::is_digit;
@@ -31,7 +32,7 @@ fn digits_end(word: &[u8], at: usize) -> usize
 
 // A unit's name is made of bytes that are neither digits nor blanks.
 fn is_unit_byte(b: u8, class: &[u8; 256]) -> bool
-    requires { ⌜ faults (now class) ≡ 0 ⌝ }
+    requires { ⌜ IsClassTable (now class) ⌝ }
     ensures { λ r. ⌜ r ≡ isUnitByte b ⌝ }
 {
     if is_digit(b) {
@@ -42,7 +43,7 @@ fn is_unit_byte(b: u8, class: &[u8; 256]) -> bool
 
 // Where the bytes of a unit's name, from a position of the word on, end.
 fn unit_end(word: &[u8], at: usize, class: &[u8; 256]) -> usize
-    requires { ⌜ faults (now class) ≡ 0 ⌝ }
+    requires { ⌜ IsClassTable (now class) ⌝ }
     ensures { λ r. ⌜ r ≡ runEnd isUnitByte (now (word .entry)) at ⌝ }
 {
     let mut i = at;
@@ -77,7 +78,7 @@ pub enum Part {
 
 // A part of the unit of a rank: 1 to 9 digits, blanks or none, and the unit's name.
 fn part_at(word: &[u8], at: usize, rank: usize, class: &[u8; 256]) -> Part
-    requires { ⌜ (at ≤ length (now word)) × ((rank < length units) × (faults (now class) ≡ 0)) ⌝ }
+    requires { ⌜ (at ≤ length (now word)) × ((rank < length units) × IsClassTable (now class)) ⌝ }
     ensures { λ r. ⌜ r ≡ partAt (unitAt rank) (now (word .entry)) at ⌝ }
 {
     let digits = digits_end(word, at);
@@ -101,7 +102,7 @@ fn part_at(word: &[u8], at: usize, rank: usize, class: &[u8; 256]) -> Part
 
 // A duration: blanks, then parts in the order of their units, each at most once, with or without blanks behind them.
 pub fn parse_duration(word: &[u8], class: &[u8; 256]) -> Parsed
-    requires { ⌜ faults (now class) ≡ 0 ⌝ }
+    requires { ⌜ IsClassTable (now class) ⌝ }
     ensures { λ r. ⌜ r ≡ durationOf (now (word .entry)) ⌝ }
 {
     let mut at = class_end(word, 0, classes::BLANK, class);

@@ -1,7 +1,8 @@
 // The units of durations.
 ghost use Prim.Native.Nat.{_<_};
 ghost use lib.ListN.{length};
-ghost use Rattle.durations.specs.Duration.{units, unitAt, IsUnit};
+ghost use Rattle.durations.specs.Duration.{units};
+ghost use Rattle.durations.specs.Inner.Units.{unitAt, IsUnit};
 
 // A unit of time: its name, of which the first `len` bytes count, and its milliseconds.
 pub struct TimeUnit {

@@ -3,11 +3,14 @@ ghost use mathlib.Core.Path.{_≡_};
 ghost use Prim.Native.Nat.{_-_, _+_, _≤_, _<_, _%_};
 ghost use lib.Dec.{eqb};
 ghost use lib.ListN.{length, getD};
-ghost use Rattle.classes.specs.Class.{faults, ampersand, bar};
+ghost use Rattle.classes.specs.Class.{ampersand, bar};
+ghost use Rattle.classes.specs.Inner.ClassTable.{IsClassTable};
+ghost use Rattle.image.specs.Layout.{tagKind};
 ghost use Rattle.grammar.specs.Inner.Starts.{joinOf};
 ghost use Rattle.nodes.specs.Inner.Parses.{keepIf};
 ghost use Rattle.endings.specs.Inner.Endings.{nextOperand, groupEnd, firstArgument, nextArgument, ListRoom, ListEnd};
 use grammar::Combinator;
+use image::tag_kind;
 use nodes::ParseEnd;
 use nodes::push_combinator;
 use nodes::refuse;
@@ -20,9 +23,13 @@ use tokens::token_at;
 // How many of n nodes stay where a chain goes on: the last one goes where it is of the chain's kind.
 fn nodes_before_chain(tags: &[u32], n: usize, kind: u32) -> usize
     requires { ⌜ (0 < n) × (n ≤ length (now tags)) ⌝ }
-    ensures { λ r. ⌜ (r ≡ keepIf (eqb (getD (now (tags .entry)) (n - 1) 0 % 256) kind) n) × ((r ≤ n) × (n ≤ r + 1)) ⌝ }
+    ensures { λ r. ⌜ (r ≡ keepIf (eqb (tagKind (getD (now (tags .entry)) (n - 1) 0)) kind) n) × ((r ≤ n) × (n ≤ r + 1)) ⌝ }
 {
-    if tags[n - 1] % 256 == kind { n - 1 } else { n }
+    if tag_kind(tags[n - 1]) == kind {
+        n - 1
+    } else {
+        n
+    }
 }
 
 // Where a chain's next operand is read, and after how many nodes; or there is none.
@@ -41,7 +48,7 @@ pub fn next_operand(
     kind: u32,
     class: &[u8; 256],
 ) -> Operand
-    requires { ⌜ (faults (now class) ≡ 0) × ((ampersand ≤ sign) × ((sign ≤ bar) × ((0 < n) × (n ≤ length (now tags))))) ⌝ }
+    requires { ⌜ IsClassTable (now class) × ((ampersand ≤ sign) × ((sign ≤ bar) × ((0 < n) × (n ≤ length (now tags))))) ⌝ }
     ensures { λ r. ⌜ r ≡ nextOperand (now (text .entry)) at sign (now (tags .entry)) n kind ⌝ }
 {
     let Next::To(next) = sign_at(text, at, sign, class) else {
@@ -55,7 +62,7 @@ pub fn next_operand(
 
 // A group whose inner rule ends at a position: its closing bracket is expected there.
 pub fn close_group(text: &[u8], at: usize, n: usize, m: usize, class: &[u8; 256]) -> ParseEnd
-    requires { ⌜ faults (now class) ≡ 0 ⌝ }
+    requires { ⌜ IsClassTable (now class) ⌝ }
     ensures { λ r. ⌜ r ≡ groupEnd (now (text .entry)) at n m ⌝ }
 {
     let Next::To(next) = bracket_at(text, at, classes::CLOSE, class) else {
@@ -82,7 +89,7 @@ pub fn first_argument(
     m: usize,
     class: &[u8; 256],
 ) -> Argument
-    requires { ⌜ faults (now class) ≡ 0 ⌝ }
+    requires { ⌜ IsClassTable (now class) ⌝ }
     ensures { λ r. ⌜ r ≡ firstArgument (now (text .entry)) place next n m ⌝ }
 {
     if let Next::To(_) = bracket_at(text, next, classes::CLOSE, class) {
@@ -93,7 +100,7 @@ pub fn first_argument(
 
 // What follows an argument: another one after a comma, or the list's end.
 pub fn next_argument(text: &[u8], last: ParseEnd, class: &[u8; 256]) -> Argument
-    requires { ⌜ faults (now class) ≡ 0 ⌝ }
+    requires { ⌜ IsClassTable (now class) ⌝ }
     ensures { λ r. ⌜ r ≡ nextArgument (now (text .entry)) last ⌝ }
 {
     let ParseEnd::Done { next, n, m } = last else {

@@ -9,8 +9,8 @@ ghost use Rattle.image.specs.Kinds.{namedKind};
 ghost use Rattle.image.specs.Decode.{aLeaf, meaning, cellAt};
 ghost use Rattle.image.specs.Inner.Standing.{EncodedAt};
 ghost use Rattle.image.specs.Inner.Subtree.{ValidSubtree};
-ghost use Rattle.store_table.specs.Stores.{Entry, twinOf, countIn, entriesIn};
-ghost use Rattle.store_table.specs.Inner.Index.{Indexed};
+ghost use Rattle.store_table.specs.Stores.{Entry, twinOf, entriesIn};
+ghost use Rattle.store_table.specs.Inner.Index.{IndexedAll};
 ghost use Rattle.verdict.specs.Inner.Grades.{Graded, nameGrade, GradedAll, WithStores};
 ghost use Rattle.verdict.specs.Check.{unknownIn};
 use image::name_of;
@@ -60,7 +60,7 @@ pub fn grade_leaves(
     slots: &[u8; 512],
     grades: &mut [u8],
 ) -> Unknown
-    requires { ⌜ ValidSubtree (now image) n 0 n × ((n ≤ length (now grades)) × (WithStores (now stores) × Indexed (now stores) (countIn (now stores)) (now starts) (now slots))) ⌝ }
+    requires { ⌜ ValidSubtree (now image) n 0 n × ((n ≤ length (now grades)) × (WithStores (now stores) × IndexedAll (now stores) (now starts) (now slots))) ⌝ }
     ensures { λ r. ⌜ ((ρ : Rule) → sizeOf ρ ≡ n → EncodedAt ρ (cellAt (now (image .entry)) n) 0 → r ≡ unknownIn (entriesIn (now (stores .entry))) ρ 0) × (r ≡ Unknown.No → GradedAll (now (image .entry)) n (now (grades .exit)) (entriesIn (now (stores .entry)))) ⌝ }
 {
     let mut i = 0;

@@ -12,7 +12,8 @@ use Rattle.tokens.proofs.Token.{the-type}
 use Rattle.tokens.specs.Token.{placeOf, tokenAt, tokensFrom}
 use Rattle.tokens.specs.declared.Token.{Token}
 use Rattle.tokens.specs.declared.Token.the-variants.{End, Open, Close, Comma, And, Or, Word, Fault}
-use Rattle.grammar.specs.Grammar.{tokenKind, openSign, commaSign, closeSign, missing, after, otherToken, expectedWord, refuse, primaryStart}
+use Rattle.grammar.specs.Grammar.{tokenKind, missing, after, otherToken, expectedWord, refuse, primaryStart}
+use Rattle.classes.specs.Class.{openBracket, comma, closeBracket}
 use Rattle.grammar.proofs.Laws.TokenListLaws.{after-off, word-undue}
 use Rattle.grammar.proofs.Laws.StartLaws.{head-none}
 
@@ -46,12 +47,12 @@ module _ (s : List ℕ) (at : ℕ) {t : Token} (e : t ≡ tokenAt s at) where
   pub no-sign : (k : ℕ) → T (not (hasKey (others k) k)) → OneOf (others k) (tagOf the-type t) → after k (tokensFrom s at) ≡ missing
   no-sign k h o = after-off s at (sym e) k (not-kind (others k) k h t o)
 
-  pub no-comma-close : OneOf (without commaSign (others closeSign)) (tagOf the-type t) → (after commaSign (tokensFrom s at) ≡ missing) × (after closeSign (tokensFrom s at) ≡ missing)
+  pub no-comma-close : OneOf (without comma (others closeBracket)) (tagOf the-type t) → (after comma (tokensFrom s at) ≡ missing) × (after closeBracket (tokensFrom s at) ≡ missing)
   no-comma-close o =
-      let ks = without commaSign (others closeSign) in
-      (after-off s at (sym e) commaSign (not-kind ks commaSign tt t o), after-off s at (sym e) closeSign (not-kind ks closeSign tt t o))
+      let ks = without comma (others closeBracket) in
+      (after-off s at (sym e) comma (not-kind ks comma tt t o), after-off s at (sym e) closeBracket (not-kind ks closeBracket tt t o))
 
-  pub no-primary : (d : ℕ) → OneOf (without openSign (others 6)) (tagOf the-type t) → primaryStart s d (tokensFrom s at) ≡ refuse noExpression (placeOf t)
+  pub no-primary : (d : ℕ) → OneOf (without openBracket (others 6)) (tagOf the-type t) → primaryStart s d (tokensFrom s at) ≡ refuse noExpression (placeOf t)
   no-primary d o =
-      let ks = without openSign (others 6) in
-      head-none s d at (sym e) (not-kind ks openSign tt t o) (not-kind ks 6 tt t o)
+      let ks = without openBracket (others 6) in
+      head-none s d at (sym e) (not-kind ks openBracket tt t o) (not-kind ks 6 tt t o)

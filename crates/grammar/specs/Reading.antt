@@ -1,7 +1,7 @@
 -- What a text reads as: "Reading tests 1, 2, 3, then the whole text for 4 to 6 (leftmost wins), then parses, first refusal wins."
 -- Assumes nothing.
 use Prim.Native.Nat.{ℕ, _+_, _*_}
-use mathlib.Core.Bool.{Bool, true, cond}
+use mathlib.Core.Bool.{Bool, false, cond}
 use mathlib.Core.List.{List, [], _∷_}
 use lib.Dec.{ltb, eqb}
 use lib.ListN.{length}
@@ -22,7 +22,7 @@ pub data Read : Type 0 where
 
 -- the last of a text's tokens is left
 abbrev pub atEnd : List Token → Bool
-atEnd [] = true
+atEnd [] = false
 atEnd (t ∷ ts) = eqb (tokenKind t) 0
 
 -- 9, "tokens left after the rule"

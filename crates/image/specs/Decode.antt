@@ -1,5 +1,5 @@
 -- From bytes to the rule whose image they are, if they are one. Assumes nothing.
-use Prim.Native.Nat.{ℕ, zero, suc, _+_, _-_, _/_, _%_}
+use Prim.Native.Nat.{ℕ, zero, suc, _+_, _-_}
 use mathlib.Core.Bool.{Bool, true, false, _&&_}
 use mathlib.Core.List.{List}
 use mathlib.Core.Option.{Option, none, some}
@@ -8,7 +8,7 @@ use lib.ListN.{length, drop}
 use Rattle.rules.specs.Rule.{Leaf, named, olderThan, readable, Join, atLeast, all, any, Rule, leaf, node, Rules, nil, more, size}
 use Rattle.little_endian.specs.Bytes.{leAt}
 use Rattle.slices.specs.Text.{allAscii}
-use Rattle.image.specs.Layout.{nodeCountIn, nameByteCountIn, tagStart, argStart, namesStart, nameOf}
+use Rattle.image.specs.Layout.{nodeCountIn, nameByteCountIn, tagStart, argStart, namesStart, tagKind, tagSize, nameStart, nameLength, nameOf}
 
 abbrev pub when {ℓ} : {A : Type ℓ} → Bool → Option A → Option A
 when true o = o
@@ -17,10 +17,6 @@ when false o = none
 abbrev pub bind {ℓ} : {A B : Type ℓ} → Option A → (A → Option B) → Option B
 bind none f = none
 bind (some a) f = f a
-
-abbrev pub isSome {ℓ} : {A : Type ℓ} → Option A → Bool
-isSome none = false
-isSome (some a) = true
 
 -- a node as it lies in the image
 pub record Node : Type 0 where
@@ -32,8 +28,8 @@ pub record Node : Type 0 where
 unfoldable pub nodeAt : List ℕ → ℕ → ℕ → Node
 unfolding leAt
 nodeAt s n i = record {
-  kind = leAt s (tagStart i) 4 % 256;
-  size = leAt s (tagStart i) 4 / 256;
+  kind = tagKind (leAt s (tagStart i) 4);
+  size = tagSize (leAt s (tagStart i) 4);
   arg = leAt s (argStart n i) 8;
 }
 
@@ -102,7 +98,7 @@ only (more (more rs q) r) = none
 
 -- "start the sum of earlier name lengths": where the next name starts, if each started where the one before it ended
 abbrev pub nextName : ℕ → ℕ → ℕ → Option ℕ
-nextName zero a t = when (eqb (a / 65536) t) (some (t + a % 65536))
+nextName zero a t = when (eqb (nameStart a) t) (some (t + nameLength a))
 nextName (suc k) a t = some t
 
 unfoldable pub nameEnd : (ℕ → Node) → ℕ → Option ℕ

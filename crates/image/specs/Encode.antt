@@ -1,9 +1,8 @@
 -- From a rule to its image, as document 01's 'Rule image' lays it down. Assumes nothing.
 use Prim.Native.Nat.{ℕ, suc, _+_, _*_, _^_, _≤_, _<_}
 use mathlib.Core.Path.{_≡_}
-use mathlib.Core.Bool.{Bool, true, _&&_}
+use mathlib.Core.Bool.{true}
 use mathlib.Core.List.{List, [], _∷_, _++_}
-use lib.Dec.{ltb}
 use lib.ListN.{length}
 use Rattle.rules.specs.Rule.{Leaf, named, olderThan, readable, Join, atLeast, all, any, Rule, leaf, node, Rules, nil, more, size, sizes}
 use Rattle.little_endian.specs.Bytes.{leBytes, packed}
@@ -26,9 +25,13 @@ joinKind any = anyKind
 abbrev pub tag : ℕ → ℕ → ℕ
 tag kind size = kind + 256 * size
 
--- "argument start × 65,536 + length", where `start` name bytes stand before; "milliseconds"; "count"
+-- "argument start × 65,536 + length"
+abbrev pub nameArg : ℕ → ℕ → ℕ
+nameArg start length = start * 65536 + length
+
+-- of a name before which there are `start` name bytes; "milliseconds"; "count"
 abbrev pub leafArg : Leaf → ℕ → ℕ
-leafArg (named w) start = start * 65536 + length w
+leafArg (named w) start = nameArg start (length w)
 leafArg (olderThan d) start = d
 leafArg (readable k) start = k
 
@@ -65,7 +68,7 @@ unfoldable mutual
   tagsAll nil = []
   tagsAll (more rs r) = tagsAll rs ++ tags r
 
--- the arguments, where `start` name bytes stand before: "start the sum of earlier name lengths"
+-- the arguments, after `start` name bytes: "start the sum of earlier name lengths"
 unfoldable mutual
   unfolding names
 

@@ -24,6 +24,20 @@ argStart n i = 4 + 4 * n + 8 * i
 abbrev pub namesStart : ℕ → ℕ
 namesStart n = 4 + 12 * n
 
--- "argument start × 65,536 + length": the bytes of a name in an image of n nodes, from the argument of its node
+-- "Tag = kind + 256 × size": what a tag says
+abbrev pub tagKind : ℕ → ℕ
+tagKind tag = tag % 256
+
+abbrev pub tagSize : ℕ → ℕ
+tagSize tag = tag / 256
+
+-- "argument start × 65,536 + length": what the argument of a name's node says
+abbrev pub nameStart : ℕ → ℕ
+nameStart arg = arg / 65536
+
+abbrev pub nameLength : ℕ → ℕ
+nameLength arg = arg % 65536
+
+-- the bytes of the name, in an image of n nodes
 abbrev pub nameOf : List ℕ → ℕ → ℕ → List ℕ
-nameOf s n arg = take (arg % 65536) (drop (namesStart n + arg / 65536) s)
+nameOf s n arg = take (nameLength arg) (drop (namesStart n + nameStart arg) s)

@@ -2,10 +2,10 @@
 ghost use mathlib.Core.Path.{_≡_};
 ghost use Prim.Native.Nat.{_+_, _*_, _^_, _≤_, _<_};
 ghost use lib.ListN.{length, take};
-ghost use Rattle.slices.specs.Written.{written};
+ghost use Rattle.slices.specs.Text.{written};
 ghost use Rattle.little_endian.specs.Bytes.{packed};
-ghost use Rattle.image.specs.Layout.{nodeCountIn, nameByteCountIn, namesStart, nameOf};
-ghost use Rattle.image.specs.Encode.{imageOf};
+ghost use Rattle.image.specs.Layout.{nodeCountIn, nameByteCountIn, namesStart, tagKind, nameStart, nameLength, nameOf};
+ghost use Rattle.image.specs.Encode.{tag, nameArg, imageOf};
 ghost use Rattle.image.specs.Decode.{nodeAt};
 ghost use Rattle.image.specs.Inner.Leaves.{isLeaf};
 ghost use Rattle.image.specs.Inner.Valid.{nodeOf};
@@ -35,6 +35,43 @@ pub fn is_leaf(kind: u32) -> bool
     ensures { λ r. ⌜ r ≡ isLeaf kind ⌝ }
 {
     kind <= READABLE
+}
+
+// A node's tag, from its kind and its size.
+pub fn tag_of(kind: u32, size: usize) -> u32
+    requires { ⌜ (kind < 256) × (size ≤ 65536) ⌝ }
+    ensures { λ r. ⌜ r ≡ tag kind size ⌝ }
+{
+    kind + 256 * (size as u32)
+}
+
+// The kind that a tag says.
+pub fn tag_kind(tag: u32) -> u32
+    ensures { λ r. ⌜ r ≡ tagKind tag ⌝ }
+{
+    tag % 256
+}
+
+// The argument of a name's node, from where its bytes begin among the name bytes, and how many there are.
+pub fn name_arg(start: usize, length: usize) -> u64
+    requires { ⌜ (start ≤ 65536) × (length ≤ 65536) ⌝ }
+    ensures { λ r. ⌜ r ≡ nameArg start length ⌝ }
+{
+    (start as u64) * 65536 + (length as u64)
+}
+
+// Where the bytes of a name begin among the name bytes, from the argument of its node.
+pub fn name_start(arg: u64) -> u64
+    ensures { λ r. ⌜ r ≡ nameStart arg ⌝ }
+{
+    arg / 65536
+}
+
+// How many there are.
+pub fn name_length(arg: u64) -> u64
+    ensures { λ r. ⌜ r ≡ nameLength arg ⌝ }
+{
+    arg % 65536
 }
 
 // Writes the first n tags, each in four bytes.
@@ -144,7 +181,7 @@ pub fn name_of(image: &[u8], n: usize, arg: u64) -> &[u8]
     requires { ⌜ NameInside (now image) n arg ⌝ }
     ensures { λ r. ⌜ now r ≡ nameOf (now (image .entry)) n arg ⌝ }
 {
-    let start = 4 + 12 * n + (arg / 65536) as usize;
-    let end = start + (arg % 65536) as usize;
+    let start = 4 + 12 * n + name_start(arg) as usize;
+    let end = start + name_length(arg) as usize;
     &image[start..end]
 }

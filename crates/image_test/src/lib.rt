@@ -5,10 +5,12 @@ ghost use Prim.Native.Nat.{_-_, _≤_, suc, _<_};
 ghost use lib.ListN.{length};
 ghost use Rattle.rules.specs.Rule.{Rules};
 ghost use Rattle.image.specs.Layout.{namesStart};
-ghost use Rattle.image.specs.Decode.{cellAt, split, build, isSome, bind, only, nodeAt, nameEnd, endsAt, decode};
-ghost use Rattle.image.specs.Inner.Valid.{BuiltUpTo};
+ghost use Rattle.image.specs.Decode.{cellAt, split, build, bind, only, nodeAt, nameEnd, endsAt, decode};
+ghost use Rattle.image.specs.Inner.Valid.{BuiltUpTo, isSome};
 use image::is_leaf;
 use image::name_byte_count;
+use image::name_length;
+use image::name_start;
 use image::names_start;
 use image::node_at;
 use image::node_count;
@@ -91,10 +93,10 @@ fn names_run(image: &[u8], n: usize, m: usize) -> bool
         let kind = node.kind;
         let arg = node.arg;
         if kind == image::NAMED {
-            if arg / 65536 != end {
+            if name_start(arg) != end {
                 return false;
             }
-            end += arg % 65536;
+            end += name_length(arg);
         }
         i += 1;
     }

@@ -4,8 +4,7 @@ use mathlib.Core.Bool.{cond}
 use mathlib.Core.List.{List, [], _∷_, _++_}
 use lib.Dec.{eqb}
 use lib.ListN.{length, take, replicate}
-use Rattle.slices.specs.Text.{bytes, part, runEnd, other}
-use Rattle.slices.specs.Search.{endOfLast}
+use Rattle.slices.specs.Text.{bytes, part, runEnd, other, endOfLast}
 use Rattle.ascii.specs.Letters.{within}
 use Rattle.refusals.specs.Refusals.{rowOf}
 use Rattle.decimal.specs.Digits.{digitsOf}
@@ -17,7 +16,7 @@ lineEnd = 10 ∷ []
 abbrev pub numbersLine : List ℕ → ℕ → ℕ → List ℕ
 numbersLine w a b = w ++ (digitsOf a ++ (bytes " " ++ (digitsOf b ++ lineEnd)))
 
--- ---- a text without the blanks behind it
+-- ---- a text without the blanks at its end
 
 -- where its last byte above 32 ends
 abbrev pub textEnd : List ℕ → ℕ
@@ -41,7 +40,7 @@ unfolding shown
 shownAll [] = []
 shownAll (b ∷ s) = shown b ∷ shownAll s
 
--- the line in which a position stands begins behind the last line end before it, and ends before the next one
+-- the line of a position begins after the last line end before it, and ends before the next one
 abbrev pub lineStart : List ℕ → ℕ → ℕ
 lineStart s p = endOfLast (within 10 10) s p
 

@@ -2,7 +2,7 @@
 ghost use mathlib.Core.Path.{_≡_};
 ghost use Prim.Native.Nat.{_+_, _≤_, _*_};
 ghost use lib.ListN.{length, replicate};
-ghost use Rattle.slices.specs.Written.{WrittenAt};
+ghost use Rattle.slices.specs.Text.{WrittenAt};
 ghost use Rattle.lines.specs.Lines.{numbersLine, trimmed, meaningLine, shown, shownAll, markedLine};
 use decimal::digits::append_digits;
 use refusals::row_of;

@@ -8,7 +8,7 @@ unfoldable pub leBytes : ℕ → ℕ → List ℕ
 leBytes zero x = []
 leBytes (suc k) x = x % 256 ∷ leBytes k (x / 256)
 
--- numbers in k bytes each, one behind the other
+-- numbers in k bytes each, one after the other
 unfoldable pub packed : ℕ → List ℕ → List ℕ
 unfolding leBytes
 packed k [] = []

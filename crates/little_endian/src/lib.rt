@@ -2,7 +2,7 @@
 ghost use mathlib.Core.Path.{_≡_};
 ghost use Prim.Native.Nat.{_<_, _+_, _^_, _≤_};
 ghost use lib.ListN.{length};
-ghost use Rattle.slices.specs.Written.{written};
+ghost use Rattle.slices.specs.Text.{written};
 ghost use Rattle.little_endian.specs.Bytes.{leAt, leBytes};
 
 fn wide(x: u8) -> u64

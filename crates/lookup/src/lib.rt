@@ -1,8 +1,9 @@
 // A name looked up in a table: by its index, or by a look at each entry.
 ghost use mathlib.Core.Path.{_≡_};
 ghost use Prim.Native.Nat.{_≤_, _<_};
-ghost use Rattle.store_table.specs.Stores.{TableInBounds, countIn, entriesIn};
-ghost use Rattle.store_table.specs.Inner.Index.{Finds, hashOf, Indexed};
+ghost use Rattle.store_table.specs.Stores.{countIn, entriesIn};
+ghost use Rattle.store_table.specs.Inner.Bounds.{TableInBounds};
+ghost use Rattle.store_table.specs.Inner.Index.{Finds, hashOf, Indexed, IndexedAll};
 use name_hash::hash_of;
 use store_table::Found;
 use store_table::count_of;
@@ -57,7 +58,7 @@ pub fn find_by(
 
 // An entry of this name in an indexed table.
 pub fn find(name: &[u8], s: &[u8], starts: &[u16; 64], slots: &[u8; 512]) -> Found
-    requires { ⌜ TableInBounds (now s) × Indexed (now s) (countIn (now s)) (now starts) (now slots) ⌝ }
+    requires { ⌜ TableInBounds (now s) × IndexedAll (now s) (now starts) (now slots) ⌝ }
     ensures { λ r. ⌜ Finds (now (name .entry)) (entriesIn (now (s .entry))) (countIn (now (s .entry))) r ⌝ }
 {
     find_by(name, hash_of(name), s, count_of(s), starts, slots)

@@ -15,6 +15,8 @@ use grammar::combinator_arg;
 use grammar::combinator_kind;
 use grammar::test_arg;
 use grammar::test_kind;
+use image::name_arg;
+use image::tag_of;
 use refusals::Refusal;
 
 // Where the text goes on, and how many nodes and name bytes stand; or a refusal.
@@ -34,7 +36,7 @@ fn push(tags: &mut [u32], args: &mut [u64], n: usize, kind: u32, size: usize, ar
     requires { ⌜ (n < length (now tags)) × ((n < length (now args)) × ((kind < 256) × (size ≤ 65536))) ⌝ }
     ensures { λ _. ⌜ (now (tags .exit) ≡ set (now (tags .entry)) n (tag kind size)) × (now (args .exit) ≡ set (now (args .entry)) n arg) ⌝ }
 {
-    tags[n] = kind + 256 * (size as u32);
+    tags[n] = tag_of(kind, size);
     args[n] = arg;
 }
 
@@ -69,14 +71,7 @@ pub fn push_name(
 {
     let size = end - start;
     write_name(text, start, end, names, m);
-    push(
-        tags,
-        args,
-        n,
-        image::NAMED,
-        1,
-        (m as u64) * 65536 + (size as u64),
-    );
+    push(tags, args, n, image::NAMED, 1, name_arg(m, size));
     ParseEnd::Done {
         next,
         n: n + 1,

@@ -40,7 +40,7 @@ abbrev pub reportBy : List ℕ → Stores → List ℕ
 reportBy text (wrongAt i f) = argumentLine i f
 reportBy text (stores es) = judgedText text es
 
--- of a rule's text, and of arguments that stand one behind the other, each with a 0 behind it
+-- of a rule's text, and of arguments one after the other, each with a 0 after it
 unfoldable pub reportOf : List ℕ → List ℕ → List ℕ
 unfolding split storesIn judgedText
 reportOf text args = cond (ltb 64 (length (split args))) tooMany (reportBy text (storesIn args))

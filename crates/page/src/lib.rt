@@ -1,7 +1,7 @@
 // The page that `rulejudge` prints of a rule's text and of stores given as arguments.
 ghost use Prim.Native.Nat.{_+_, _≤_};
 ghost use lib.ListN.{length};
-ghost use Rattle.slices.specs.Written.{WrittenAt};
+ghost use Rattle.slices.specs.Text.{WrittenAt};
 ghost use Rattle.page.specs.Page.{faultText, argumentLine, pageOf};
 use args_table::table_of;
 use decimal::digits::append_digits;

@@ -1,10 +1,7 @@
 // The parser: or calls and, and calls primary, primary calls or again. Each appends to three lent arrays: a tag and an argument
 // for each node, and the bytes of the names.
-ghost use Prim.Native.Nat.{ℕ, _+_, _*_};
-ghost use Rattle.tokens.specs.Token.{tokensFrom};
 ghost use Rattle.grammar.specs.Grammar.{orIn, andIn, primaryIn};
-ghost use Rattle.grammar.specs.Inner.Starts.{left};
-ghost use Rattle.nodes.specs.Inner.Parses.{arrays, Before, Parsed};
+ghost use Rattle.nodes.specs.Inner.Parses.{arrays, Before, ParsedBy};
 use endings::Argument;
 use endings::Operand;
 use endings::close_group;
@@ -33,7 +30,7 @@ pub fn parse_or(
     class: &[u8; 256],
 ) -> ParseEnd
     requires { ⌜ Before (now class) (now text) at depth n m (arrays (now tags) (now args) (now names)) ⌝ }
-    ensures { λ r. ⌜ Parsed (λ (f : ℕ). orIn f (now (text .entry)) depth (tokensFrom (now (text .entry)) at)) (3 * left (now (text .entry)) at + 3) (now (text .entry)) at n m (arrays (now (tags .entry)) (now (args .entry)) (now (names .entry))) (arrays (now (tags .exit)) (now (args .exit)) (now (names .exit))) r ⌝ }
+    ensures { λ r. ⌜ ParsedBy orIn 3 (now (text .entry)) depth at n m (arrays (now (tags .entry)) (now (args .entry)) (now (names .entry))) (arrays (now (tags .exit)) (now (args .exit)) (now (names .exit))) r ⌝ }
 {
     let first = parse_and(text, at, depth, tags, args, names, n, m, class);
     let ParseEnd::Done {
@@ -91,7 +88,7 @@ pub fn parse_and(
     class: &[u8; 256],
 ) -> ParseEnd
     requires { ⌜ Before (now class) (now text) at depth n m (arrays (now tags) (now args) (now names)) ⌝ }
-    ensures { λ r. ⌜ Parsed (λ (f : ℕ). andIn f (now (text .entry)) depth (tokensFrom (now (text .entry)) at)) (3 * left (now (text .entry)) at + 2) (now (text .entry)) at n m (arrays (now (tags .entry)) (now (args .entry)) (now (names .entry))) (arrays (now (tags .exit)) (now (args .exit)) (now (names .exit))) r ⌝ }
+    ensures { λ r. ⌜ ParsedBy andIn 2 (now (text .entry)) depth at n m (arrays (now (tags .entry)) (now (args .entry)) (now (names .entry))) (arrays (now (tags .exit)) (now (args .exit)) (now (names .exit))) r ⌝ }
 {
     let first = parse_primary(text, at, depth, tags, args, names, n, m, class);
     let ParseEnd::Done {
@@ -149,7 +146,7 @@ pub fn parse_primary(
     class: &[u8; 256],
 ) -> ParseEnd
     requires { ⌜ Before (now class) (now text) at depth n m (arrays (now tags) (now args) (now names)) ⌝ }
-    ensures { λ r. ⌜ Parsed (λ (f : ℕ). primaryIn f (now (text .entry)) depth (tokensFrom (now (text .entry)) at)) (3 * left (now (text .entry)) at + 1) (now (text .entry)) at n m (arrays (now (tags .entry)) (now (args .entry)) (now (names .entry))) (arrays (now (tags .exit)) (now (args .exit)) (now (names .exit))) r ⌝ }
+    ensures { λ r. ⌜ ParsedBy primaryIn 1 (now (text .entry)) depth at n m (arrays (now (tags .entry)) (now (args .entry)) (now (names .entry))) (arrays (now (tags .exit)) (now (args .exit)) (now (names .exit))) r ⌝ }
 {
     match primary_start_at(text, at, depth, class) {
         PrimaryStart::Refused(f) => ParseEnd::Refused(f),

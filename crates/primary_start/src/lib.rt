@@ -3,9 +3,10 @@ ghost use mathlib.Core.Path.{_≡_};
 ghost use Prim.Native.Nat.{_≤_, _+_, _-_};
 ghost use lib.ListN.{length};
 ghost use Rattle.slices.specs.Text.{part};
-ghost use Rattle.classes.specs.Class.{faults};
+ghost use Rattle.classes.specs.Inner.ClassTable.{IsClassTable};
 ghost use Rattle.tokens.specs.Token.{tokensFrom};
-ghost use Rattle.grammar.specs.Grammar.{unquotedStart, after, openSign, wordStart, primaryStart};
+ghost use Rattle.grammar.specs.Grammar.{unquotedStart, after, wordStart, primaryStart};
+ghost use Rattle.classes.specs.Class.{openBracket};
 ghost use Rattle.grammar.specs.Inner.Starts.{left, Begins};
 use ascii::eq_ignore_ascii_case;
 use calls::call_start;
@@ -30,8 +31,8 @@ fn unquoted_start(
     next: usize,
     class: &[u8; 256],
 ) -> PrimaryStart
-    requires { ⌜ (faults (now class) ≡ 0) × ((start ≤ end) × ((end ≤ next) × (next ≤ length (now text)))) ⌝ }
-    ensures { λ r. ⌜ Begins (now (text .entry)) start next (left (now (text .entry)) next) r (unquotedStart (now (text .entry)) depth place (part (now (text .entry)) start end) (tokensFrom (now (text .entry)) next) (after openSign (tokensFrom (now (text .entry)) next))) ⌝ }
+    requires { ⌜ IsClassTable (now class) × ((start ≤ end) × ((end ≤ next) × (next ≤ length (now text)))) ⌝ }
+    ensures { λ r. ⌜ Begins (now (text .entry)) start next (left (now (text .entry)) next) r (unquotedStart (now (text .entry)) depth place (part (now (text .entry)) start end) (tokensFrom (now (text .entry)) next) (after openBracket (tokensFrom (now (text .entry)) next))) ⌝ }
 {
     let word = word_of(text, start, end);
     let Next::To(inside) = bracket_at(text, next, classes::OPEN, class) else {
@@ -60,7 +61,7 @@ fn word_start(
     next: usize,
     class: &[u8; 256],
 ) -> PrimaryStart
-    requires { ⌜ (faults (now class) ≡ 0) × ((start ≤ end) × ((end ≤ next) × (next ≤ length (now text)))) ⌝ }
+    requires { ⌜ IsClassTable (now class) × ((start ≤ end) × ((end ≤ next) × (next ≤ length (now text)))) ⌝ }
     ensures { λ r. ⌜ Begins (now (text .entry)) start next (left (now (text .entry)) next) r (wordStart (now (text .entry)) depth place (part (now (text .entry)) start end) quoted (tokensFrom (now (text .entry)) next)) ⌝ }
 {
     if quoted {
@@ -71,7 +72,7 @@ fn word_start(
 
 // How the primary at a position begins, where `depth` brackets stand open.
 pub fn primary_start_at(text: &[u8], at: usize, depth: usize, class: &[u8; 256]) -> PrimaryStart
-    requires { ⌜ faults (now class) ≡ 0 ⌝ }
+    requires { ⌜ IsClassTable (now class) ⌝ }
     ensures { λ r. ⌜ Begins (now (text .entry)) at (at + 1) (left (now (text .entry)) at - 1) r (primaryStart (now (text .entry)) depth (tokensFrom (now (text .entry)) at)) ⌝ }
 {
     let t = token_at(text, at, class);

@@ -2,7 +2,7 @@
 ghost use mathlib.Core.Path.{_≡_};
 ghost use Prim.Native.Nat.{_≤_};
 ghost use lib.ListN.{length};
-ghost use Rattle.slices.specs.Written.{WrittenAt};
+ghost use Rattle.slices.specs.Text.{WrittenAt};
 ghost use Rattle.image.specs.Kinds.{namedKind};
 ghost use Rattle.image.specs.Inner.Subtree.{NameInside};
 ghost use Rattle.print_text.specs.Inner.Pieces.{leafIn, openingOf, behindOf, backOf, frontOf};

@@ -13,13 +13,13 @@ leafText (named w) = w
 leafText (olderThan d) = bytes "older_than(" ++ (durationText d ++ bytes ")")
 leafText (readable k) = bytes "readable(" ++ (digitsOf k ++ bytes ")")
 
--- "`at_least(k, x, y)`": what stands before a combinator's children
+-- "`at_least(k, x, y)`": what comes before a combinator's children
 unfoldable pub opening : Join → List ℕ
 opening (atLeast k) = bytes "at_least(" ++ (digitsOf k ++ bytes ", ")
 opening all = []
 opening any = []
 
--- "all joined by ` && `, any by ` || `": what stands between two of them, and behind the last
+-- "all joined by ` && `, any by ` || `": what comes between two of them, and after the last
 unfoldable pub behind : Join → Bool → List ℕ
 behind (atLeast k) false = bytes ", "
 behind all false = bytes " && "
@@ -44,7 +44,7 @@ bracketed any r = false
 unfoldable pub bracket : Bool → List ℕ → List ℕ
 bracket b sign = cond b sign []
 
--- a child of text t, and what stands behind it: the last child is not followed by another
+-- a child of text t, and what comes after it, by whether it is the last child
 unfoldable pub childText : Join → Rule → List ℕ → Bool → List ℕ
 unfolding behind bracketed bracket
 childText j r t last = bracket (bracketed j r) (bytes "(") ++ (t ++ (bracket (bracketed j r) (bytes ")") ++ behind j last))

@@ -2,7 +2,7 @@
 ghost use mathlib.Core.Path.{_≡_};
 ghost use Prim.Native.Nat.{_+_, _*_, _≤_};
 ghost use lib.ListN.{length};
-ghost use Rattle.classes.specs.Class.{faults};
+ghost use Rattle.classes.specs.Inner.ClassTable.{IsClassTable};
 ghost use Rattle.grammar.specs.Reading.{readOf};
 ghost use Rattle.nodes.specs.Inner.Parses.{arrays};
 ghost use Rattle.parse_text.specs.Inner.Parsing.{Ready};
@@ -45,7 +45,7 @@ fn read_by(
 
 // Reads a text of at most 64 bytes.
 fn read_64(text: &[u8], image: &mut [u8], class: &[u8; 256]) -> Reading
-    requires { ⌜ (faults (now class) ≡ 0) × ((length (now text) ≤ 64) × (4 + 13 * length (now text) ≤ length (now image))) ⌝ }
+    requires { ⌜ IsClassTable (now class) × ((length (now text) ≤ 64) × (4 + 13 * length (now text) ≤ length (now image))) ⌝ }
     ensures { λ r. ⌜ outcome r (now (image .exit)) ≡ readingOf (readOf (now (text .entry))) (now (image .entry)) ⌝ }
 {
     let mut tags = [0u32; 64];
@@ -56,7 +56,7 @@ fn read_64(text: &[u8], image: &mut [u8], class: &[u8; 256]) -> Reading
 
 // Of at most 512.
 fn read_512(text: &[u8], image: &mut [u8], class: &[u8; 256]) -> Reading
-    requires { ⌜ (faults (now class) ≡ 0) × ((length (now text) ≤ 512) × (4 + 13 * length (now text) ≤ length (now image))) ⌝ }
+    requires { ⌜ IsClassTable (now class) × ((length (now text) ≤ 512) × (4 + 13 * length (now text) ≤ length (now image))) ⌝ }
     ensures { λ r. ⌜ outcome r (now (image .exit)) ≡ readingOf (readOf (now (text .entry))) (now (image .entry)) ⌝ }
 {
     let mut tags = [0u32; 512];
@@ -67,7 +67,7 @@ fn read_512(text: &[u8], image: &mut [u8], class: &[u8; 256]) -> Reading
 
 // Of at most 2,048.
 fn read_2048(text: &[u8], image: &mut [u8], class: &[u8; 256]) -> Reading
-    requires { ⌜ (faults (now class) ≡ 0) × ((length (now text) ≤ 2048) × (4 + 13 * length (now text) ≤ length (now image))) ⌝ }
+    requires { ⌜ IsClassTable (now class) × ((length (now text) ≤ 2048) × (4 + 13 * length (now text) ≤ length (now image))) ⌝ }
     ensures { λ r. ⌜ outcome r (now (image .exit)) ≡ readingOf (readOf (now (text .entry))) (now (image .entry)) ⌝ }
 {
     let mut tags = [0u32; 2048];

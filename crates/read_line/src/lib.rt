@@ -1,7 +1,7 @@
 // The line that `ruleread` prints.
 ghost use Prim.Native.Nat.{_+_, _≤_};
 ghost use lib.ListN.{length};
-ghost use Rattle.slices.specs.Written.{WrittenAt};
+ghost use Rattle.slices.specs.Text.{WrittenAt};
 ghost use Rattle.grammar.specs.Reading.{readOf};
 ghost use Rattle.read_line.specs.Reading.{refusalLine, readLine};
 use image::name_byte_count;

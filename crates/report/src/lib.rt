@@ -1,8 +1,9 @@
 // What a person is told of a verdict on a text.
 ghost use Prim.Native.Nat.{_+_, _≤_};
 ghost use lib.ListN.{length};
-ghost use Rattle.slices.specs.Written.{WrittenAt};
-ghost use Rattle.store_table.specs.Stores.{TableInBounds, entriesIn};
+ghost use Rattle.slices.specs.Text.{WrittenAt};
+ghost use Rattle.store_table.specs.Stores.{entriesIn};
+ghost use Rattle.store_table.specs.Inner.Bounds.{TableInBounds};
 ghost use Rattle.details.specs.Report.{verdictLine, passLine, verdictText};
 ghost use Rattle.details.specs.Inner.Room.{Ready};
 use details::append_detail;

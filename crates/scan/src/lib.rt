@@ -1,8 +1,9 @@
 // A whole text tested: its first foreign byte, and the first of the refusals 4, 5 and 6.
 ghost use mathlib.Core.Path.{_≡_};
 ghost use Rattle.slices.specs.Text.{runEnd};
-ghost use Rattle.classes.specs.Class.{faults};
-ghost use Rattle.tokens.specs.Token.{ascii, lastOf, tokensFrom, scanOf};
+ghost use Rattle.classes.specs.Inner.ClassTable.{IsClassTable};
+ghost use Rattle.tokens.specs.Token.{ascii, tokensFrom, scanOf};
+ghost use Rattle.tokens.specs.Inner.Bounds.{lastOf};
 use classes::class_at;
 use signs::next_of;
 use slices::largest_from;
@@ -13,7 +14,7 @@ use tokens::token_at;
 
 // Where the first foreign byte stands, or the text's length.
 pub fn foreign_at(text: &[u8], class: &[u8; 256]) -> usize
-    requires { ⌜ faults (now class) ≡ 0 ⌝ }
+    requires { ⌜ IsClassTable (now class) ⌝ }
     ensures { λ r. ⌜ r ≡ runEnd ascii (now (text .entry)) 0 ⌝ }
 {
     if largest_from(text, 0) < 128 {
@@ -41,7 +42,7 @@ fn last_of(t: Token) -> Scanned
 
 // The whole text for 4 to 6: the leftmost wins.
 pub fn scan(text: &[u8], class: &[u8; 256]) -> Scanned
-    requires { ⌜ faults (now class) ≡ 0 ⌝ }
+    requires { ⌜ IsClassTable (now class) ⌝ }
     ensures { λ r. ⌜ r ≡ scanOf (tokensFrom (now (text .entry)) 0) ⌝ }
 {
     let mut at = 0;

@@ -1,7 +1,8 @@
 // What follows a token: where the text goes on, and whether a certain sign or bracket is next.
 ghost use mathlib.Core.Path.{_≡_};
 ghost use Prim.Native.Nat.{_≤_};
-ghost use Rattle.classes.specs.Class.{faults, openBracket, comma, ampersand, bar};
+ghost use Rattle.classes.specs.Class.{openBracket, comma, ampersand, bar};
+ghost use Rattle.classes.specs.Inner.ClassTable.{IsClassTable};
 ghost use Rattle.tokens.specs.Token.{nextOf, placeOf, tokenAt};
 ghost use Rattle.tokens.specs.Inner.Bounds.{nextOfClass};
 use classes::class_at;
@@ -57,7 +58,7 @@ pub fn place_of(t: Token) -> usize
 
 // Where the text goes on after a bracket or a comma of this class, if that is the next token.
 pub fn bracket_at(text: &[u8], at: usize, k: u8, class: &[u8; 256]) -> Next
-    requires { ⌜ (faults (now class) ≡ 0) × ((openBracket ≤ k) × (k ≤ comma)) ⌝ }
+    requires { ⌜ IsClassTable (now class) × ((openBracket ≤ k) × (k ≤ comma)) ⌝ }
     ensures { λ r. ⌜ r ≡ nextOfClass k (tokenAt (now (text .entry)) at) ⌝ }
 {
     let place = class_end(text, at, classes::BLANK, class);
@@ -94,7 +95,7 @@ fn next_if(t: Token, k: u8) -> Next
 
 // Where the text goes on after the sign of this class, if that is the next token: `&&` or `and`, `||` or `or`.
 pub fn sign_at(text: &[u8], at: usize, k: u8, class: &[u8; 256]) -> Next
-    requires { ⌜ (faults (now class) ≡ 0) × ((ampersand ≤ k) × (k ≤ bar)) ⌝ }
+    requires { ⌜ IsClassTable (now class) × ((ampersand ≤ k) × (k ≤ bar)) ⌝ }
     ensures { λ r. ⌜ r ≡ nextOfClass k (tokenAt (now (text .entry)) at) ⌝ }
 {
     let place = class_end(text, at, classes::BLANK, class);

@@ -1,3 +1,2 @@
 pub mod Text
-pub mod Search
-pub mod Written
+pub mod Inner

@@ -1,13 +1,13 @@
--- A text is the list of its bytes: what a literal stands for, a part of a text, and how far a run of like bytes goes.
--- Assumes nothing.
-use Prim.Native.Nat.{ℕ, suc, _+_, _-_, _<_}
+-- A text is the list of its bytes: literals, parts, runs of bytes that pass a test, and bytes written over others. Assumes nothing.
+use Prim.Native.Nat.{ℕ, zero, suc, _+_, _-_, _<_}
 use Prim.Native.Char.{code}
 use Prim.Native.String.{String}
 use Prim.Native.String as String
+use mathlib.Core.Path.{_≡_}
 use mathlib.Core.Bool.{Bool, true, not, cond, _&&_}
-use mathlib.Core.List.{List, [], _∷_}
+use mathlib.Core.List.{List, [], _∷_, _++_}
 use lib.Dec.{ltb, eqb}
-use lib.ListN.{getD, take, drop}
+use lib.ListN.{length, getD, take, drop}
 
 -- the bytes of a literal, which is ASCII
 abbrev pub bytes : String → List ℕ
@@ -32,6 +32,11 @@ unfoldable pub runEnd : (ℕ → Bool) → List ℕ → ℕ → ℕ
 unfolding run
 runEnd p s at = at + run p (drop at s)
 
+-- the end of the last of the first i bytes that passes a test, or 0
+unfoldable pub endOfLast : (ℕ → Bool) → List ℕ → ℕ → ℕ
+endOfLast p s zero = 0
+endOfLast p s (suc i) = let before = endOfLast p s i in cond (p (getD s i 0)) (suc i) before
+
 -- the byte is not this mark
 unfoldable pub other : ℕ → ℕ → Bool
 other mark b = not (eqb b mark)
@@ -40,3 +45,12 @@ other mark b = not (eqb b mark)
 unfoldable pub allAscii : List ℕ → Bool
 allAscii [] = true
 allAscii (b ∷ bs) = ltb b 128 && allAscii bs
+
+-- a list with other elements written over its own, from a position on
+unfoldable pub written : List ℕ → ℕ → List ℕ → List ℕ
+written s at bs = take at s ++ (bs ++ drop (at + length bs) s)
+
+-- a text before and after bytes were written into it, from `start` up to `end`
+pub record WrittenAt (before after : List ℕ) (start end : ℕ) (bs : List ℕ) : Type 0 where
+  pub ends : start + length bs ≡ end
+  pub text : after ≡ written before start bs

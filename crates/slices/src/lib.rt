@@ -3,9 +3,8 @@ ghost use mathlib.Core.Path.{_≡_};
 ghost use Prim.Native.Nat.{_≤_, _+_};
 ghost use lib.ListN.{drop, length};
 ghost use Rattle.ascii.specs.Letters.{within};
-ghost use Rattle.slices.specs.Search.{largest, endOfLast};
-ghost use Rattle.slices.specs.Written.{WrittenAt};
-ghost use Rattle.slices.specs.Text.{runEnd, other, allAscii};
+ghost use Rattle.slices.specs.Inner.Search.{largest};
+ghost use Rattle.slices.specs.Text.{runEnd, other, allAscii, endOfLast, WrittenAt};
 
 // The largest byte from a position on, or 0.
 pub fn largest_from(s: &[u8], at: usize) -> u8

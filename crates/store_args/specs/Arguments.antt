@@ -5,14 +5,13 @@ use mathlib.Core.Bool.{cond}
 use mathlib.Core.List.{List, [], _∷_}
 use lib.Dec.{eqb, ltb}
 use lib.ListN.{length, take, drop}
-use Rattle.slices.specs.Text.{bytes, runEnd, allAscii, other}
-use Rattle.slices.specs.Search.{endOfLast}
+use Rattle.slices.specs.Text.{bytes, runEnd, allAscii, other, endOfLast}
 use Rattle.ascii.specs.Letters.{within, equal}
 use Rattle.store_table.specs.Stores.{Entry, readWrite, readOnly, writeOnly}
 use Rattle.store_args.specs.declared.Fault.{Fault}
 use Rattle.store_args.specs.declared.Fault.the-variants.{NoColon, NoMode, LongName, ForeignName}
 
--- arguments stand one behind the other, each with a 0 behind it
+-- arguments are given one after the other, each with a 0 after it
 abbrev onto : ℕ → List (List ℕ) → List (List ℕ)
 onto b [] = (b ∷ []) ∷ []
 onto b (w ∷ ws) = (b ∷ w) ∷ ws
@@ -20,10 +19,6 @@ onto b (w ∷ ws) = (b ∷ w) ∷ ws
 unfoldable pub split : List ℕ → List (List ℕ)
 split [] = []
 split (b ∷ s) = let ws = split s in cond (eqb b 0) ([] ∷ ws) (onto b ws)
-
--- where the argument behind that at a position begins, or the end
-abbrev pub nextArg : List ℕ → ℕ → ℕ
-nextArg s at = min (suc (runEnd (other 0) s at)) (length s)
 
 -- a store, or what is wrong with an argument
 pub data Given : Type 0 where
@@ -44,7 +39,7 @@ modeTested word name =
     (cond (equal word (bytes "read-only")) (named readOnly name)
     (cond (equal word (bytes "write-only")) (named writeOnly name) (wrong NoMode)))
 
--- behind the last colon of an argument, or 0 where there is none
+-- after the last colon of an argument, or 0 where there is none
 abbrev pub behindColon : List ℕ → ℕ
 behindColon w = endOfLast (within (code ":") (code ":")) w (length w)
 

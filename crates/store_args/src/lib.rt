@@ -2,8 +2,8 @@
 ghost use mathlib.Core.Path.{_≡_};
 ghost use Prim.Native.Nat.{_≤_};
 ghost use lib.ListN.{length, take, drop};
-ghost use Rattle.store_args.specs.Arguments.{named, modeTested, givenBy, nextArg, split};
-ghost use Rattle.store_args.specs.Inner.Filling.{Is};
+ghost use Rattle.store_args.specs.Arguments.{named, modeTested, givenBy, split};
+ghost use Rattle.store_args.specs.Inner.Filling.{Is, nextArg};
 use ascii::eq;
 use slices::ascii_from;
 use slices::end_of_last;

@@ -2,8 +2,9 @@
 ghost use mathlib.Core.Path.{_≡_};
 ghost use Prim.Native.Nat.{_+_, _<_};
 ghost use lib.ListN.{length, set};
-ghost use Rattle.store_table.specs.Stores.{TableInBounds, countIn, entriesIn, twinOf};
-ghost use Rattle.store_table.specs.Inner.Index.{Indexed, Blank};
+ghost use Rattle.store_table.specs.Stores.{entriesIn, twinOf};
+ghost use Rattle.store_table.specs.Inner.Bounds.{TableInBounds};
+ghost use Rattle.store_table.specs.Inner.Index.{Blank, IndexedAll};
 use lookup::find_by;
 use name_hash::hash_of;
 use store_table::Found;
@@ -24,7 +25,7 @@ fn enter(starts: &mut [u16], slots: &mut [u8], k: usize, at: usize, hash: usize)
 // The lowest index whose name an earlier store has; where there is none, the table is indexed.
 pub fn twin_of(stores: &[u8], starts: &mut [u16; 64], slots: &mut [u8; 512]) -> Twin
     requires { ⌜ TableInBounds (now stores) × Blank (now slots) ⌝ }
-    ensures { λ r. ⌜ (r ≡ twinOf (entriesIn (now (stores .entry)))) × (r ≡ Twin.No → Indexed (now (stores .entry)) (countIn (now (stores .entry))) (now (starts .exit)) (now (slots .exit))) ⌝ }
+    ensures { λ r. ⌜ (r ≡ twinOf (entriesIn (now (stores .entry)))) × (r ≡ Twin.No → IndexedAll (now (stores .entry)) (now (starts .exit)) (now (slots .exit))) ⌝ }
 {
     let count = count_of(stores);
     let mut k = 0;

@@ -34,12 +34,6 @@ entriesFrom (m ∷ ms) [] bs = []
 entriesFrom (m ∷ ms) (l ∷ ls) bs = record { mode = m; name = take l bs } ∷ entriesFrom ms ls (drop l bs)
 
 -- where each part begins: "count (2 bytes, at most 64), total (2 bytes), then two parallel arrays of count bytes"
-abbrev pub countStart : ℕ
-countStart = 0
-
-abbrev pub totalStart : ℕ
-totalStart = 2
-
 abbrev pub modesStart : ℕ
 modesStart = 4
 
@@ -51,11 +45,11 @@ namesStart count = modesStart + 2 * count
 
 unfoldable pub countIn : List ℕ → ℕ
 unfolding leAt
-countIn s = leAt s countStart 2
+countIn s = leAt s 0 2
 
 unfoldable pub totalIn : List ℕ → ℕ
 unfolding leAt
-totalIn s = leAt s totalStart 2
+totalIn s = leAt s 2 2
 
 abbrev pub modesIn : List ℕ → List ℕ
 modesIn s = take (countIn s) (drop modesStart s)
@@ -126,9 +120,3 @@ twinOf es = twinFrom [] 0 es
 -- "no name twice": no two entries, at indices i and j, have one name
 abbrev pub Distinct : List Entry → Type 0
 Distinct es = (i j : ℕ) (d e : Entry) → i < j → getElem? es i ≡ some d → getElem? es j ≡ some e → d .name ≡ e .name → ⊥
-
--- a table or a list whose names lie within it
-pub record TableInBounds (s : List ℕ) : Type 0 where
-  pub arrays : namesStart (countIn s) ≤ length s
-  pub names : namesStart (countIn s) + sum (lengthsIn s) ≤ length s
-  pub few : countIn s ≤ 64

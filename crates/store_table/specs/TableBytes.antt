@@ -13,7 +13,7 @@ modes es = map (λ e. e .mode) es
 unfoldable pub lengths : List Entry → List ℕ
 lengths es = map (λ e. length (e .name)) es
 
--- the names, one behind the other
+-- the names, one after the other
 unfoldable pub joined : List Entry → List ℕ
 joined [] = []
 joined (e ∷ es) = e .name ++ joined es

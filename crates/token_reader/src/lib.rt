@@ -1,7 +1,7 @@
 // The word reader: a text and a position in it, kept together. Each function is thin: the work is done by those of
 // `tokens`, whose parameters are plain.
 ghost use mathlib.Core.Path.{_≡_};
-ghost use Rattle.classes.specs.Class.{faults};
+ghost use Rattle.classes.specs.Inner.ClassTable.{IsClassTable};
 ghost use Rattle.tokens.specs.Token.{tokenAt};
 use tokens::Token;
 
@@ -30,7 +30,7 @@ impl<'a> WordReader<'a> {
 
     // The first token from the position on.
     pub fn peek(self, class: &[u8; 256]) -> Token
-        requires { ⌜ faults (now class) ≡ 0 ⌝ }
+        requires { ⌜ IsClassTable (now class) ⌝ }
         ensures { λ r. ⌜ r ≡ tokenAt (now (self .entry .text)) (self .entry .pos) ⌝ }
     {
         tokens::token_at(self.text, self.pos, class)
@@ -39,7 +39,7 @@ impl<'a> WordReader<'a> {
 
 // The first token from a position on, by a reader of the text that is moved there: its caller needs no walk by hand.
 pub fn token_from(text: &[u8], at: usize, class: &[u8; 256]) -> Token
-    requires { ⌜ faults (now class) ≡ 0 ⌝ }
+    requires { ⌜ IsClassTable (now class) ⌝ }
     ensures { λ r. ⌜ r ≡ tokenAt (now (text .entry)) at ⌝ }
 {
     WordReader::new(text).moved(at).peek(class)

@@ -8,8 +8,7 @@ use types.Run.{OneOf, miss}
 use denote.Enum.Declared.{tagOf}
 use Rattle.classes.specs.Class.{openBracket, closeBracket, comma, ampersand}
 use Rattle.tokens.proofs.Token.{the-type}
-use Rattle.tokens.specs.Token.{lastOf}
-use Rattle.tokens.specs.Inner.Bounds.{nextOfClass}
+use Rattle.tokens.specs.Inner.Bounds.{nextOfClass, lastOf}
 use Rattle.tokens.specs.declared.Token.{Token}
 use Rattle.tokens.specs.declared.Token.the-variants.{End, Open, Close, Comma, And, Or, Word, Fault}
 use Rattle.tokens.specs.declared.Next.the-variants.{Off}

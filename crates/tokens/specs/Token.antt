@@ -20,7 +20,7 @@ use Rattle.tokens.specs.declared.Scanned.the-variants.{Clean, Refused}
 unfoldable pub ascii : ℕ → Bool
 ascii b = not (eqb (classOf b) foreign)
 
--- the byte at p is followed by its like
+-- the byte at p is followed by the same byte
 unfoldable pub doubled : List ℕ → ℕ → Bool
 doubled s p = ltb (p + 1) (length s) && eqb (getD s (p + 1) 0) (getD s p 0)
 
@@ -28,7 +28,7 @@ doubled s p = ltb (p + 1) (length s) && eqb (getD s (p + 1) 0) (getD s p 0)
 abbrev pub signAt : List ℕ → ℕ → Token → Token
 signAt s p sign = cond (doubled s p) sign (Fault (refusal halfSign p))
 
--- 5, "no closing mark of the same sort"; the closing mark stands at e
+-- 5, "no closing mark of the same sort"; the closing mark is at e
 unfoldable pub quotedTo : List ℕ → ℕ → ℕ → Token
 quotedTo s p e = cond (ltb e (length s)) (Word p (p + 1) e true (e + 1)) (Fault (refusal openQuote p))
 
@@ -57,7 +57,7 @@ tokenOf s p b k =
     (cond (eqb k word) (unquotedAt s p)
     (Fault (refusal strayCharacter p))))))))
 
--- the token that begins at p, where no blank stands
+-- the token that begins at p, where there is no blank
 unfoldable pub startAt : List ℕ → ℕ → Token
 startAt s p = cond (ltb p (length s)) (tokenOf s p (getD s p 0) (classOf (getD s p 0))) (End (length s))
 
@@ -65,7 +65,7 @@ startAt s p = cond (ltb p (length s)) (tokenOf s p (getD s p 0) (classOf (getD s
 unfoldable pub tokenAt : List ℕ → ℕ → Token
 tokenAt s at = startAt s (runEnd (ofClass blank) s at)
 
--- where the text goes on after a token; after the end and after a fault it does not
+-- where the next token is looked for; after the end and after a fault there is none
 unfoldable pub nextOf : Token → Next
 nextOf (End p) = Off
 nextOf (Open p n) = To n
@@ -87,7 +87,7 @@ placeOf (Or p n) = p
 placeOf (Word p a b q n) = p
 placeOf (Fault f) = f .place
 
--- a token, and those that `more` gives from where the text goes on
+-- a token, and those that `more` gives from there on
 abbrev pub onward : Token → Next → (ℕ → List Token) → List Token
 onward t Off more = t ∷ []
 onward t (To n) more = t ∷ more n
@@ -111,9 +111,6 @@ unless (Comma p n) rest = rest
 unless (And p n) rest = rest
 unless (Or p n) rest = rest
 unless (Word p a b q n) rest = rest
-
-abbrev pub lastOf : Token → Scanned
-lastOf t = unless t Clean
 
 -- "the whole text for 4 to 6 (leftmost wins)": the first fault among tokens, or none
 unfoldable pub scanOf : List Token → Scanned

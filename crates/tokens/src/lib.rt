@@ -4,7 +4,7 @@ ghost use Prim.Native.Nat.{_≤_, _<_};
 ghost use lib.ListN.{length};
 ghost use Rattle.slices.specs.Text.{part};
 ghost use Rattle.refusals.specs.Refusals.{refusal, halfSign};
-ghost use Rattle.classes.specs.Class.{faults};
+ghost use Rattle.classes.specs.Inner.ClassTable.{IsClassTable};
 ghost use Rattle.tokens.specs.Token.{quotedAt, unquotedAt, doubled, tokenAt};
 use ascii::eq_ignore_ascii_case;
 use classes::class_at;
@@ -92,7 +92,7 @@ fn quoted_at(text: &[u8], p: usize, mark: u8) -> Token
 
 // The bare word that begins at p: `and` and `or`, in any case of letters, are the signs.
 pub fn unquoted_at(text: &[u8], p: usize, class: &[u8; 256]) -> Token
-    requires { ⌜ (p < length (now text)) × (faults (now class) ≡ 0) ⌝ }
+    requires { ⌜ (p < length (now text)) × IsClassTable (now class) ⌝ }
     ensures { λ r. ⌜ r ≡ unquotedAt (now (text .entry)) p ⌝ }
 {
     let e = class_end(text, p, classes::WORD, class);
@@ -135,7 +135,7 @@ fn half_sign(p: usize) -> Token
 
 // The first token from a position on.
 pub fn token_at(text: &[u8], at: usize, class: &[u8; 256]) -> Token
-    requires { ⌜ faults (now class) ≡ 0 ⌝ }
+    requires { ⌜ IsClassTable (now class) ⌝ }
     ensures { λ r. ⌜ r ≡ tokenAt (now (text .entry)) at ⌝ }
 {
     let place = class_end(text, at, classes::BLANK, class);

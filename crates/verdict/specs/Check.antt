@@ -30,7 +30,7 @@ abbrev pub first : Unknown → Unknown → Unknown
 first No later = later
 first (At i) later = At i
 
--- "20 the node's index from 0", of a rule before which i nodes stand
+-- "20 the node's index from 0", of a rule that begins at node i
 unfoldable mutual
   unfolding isUnknown size
 

@@ -3,7 +3,8 @@ use mathlib.Core.Path.{refl, sym, _∙_}
 use native.Mathlib.Omega.{arith}
 use Rattle.tokens.specs.Token.{nextOf}
 use Rattle.decimal.specs.Count.{countOf}
-use Rattle.grammar.specs.Grammar.{commaSign, atLeastStart}
+use Rattle.grammar.specs.Grammar.{atLeastStart}
+use Rattle.classes.specs.Class.{comma}
 use Rattle.grammar.proofs.Laws.TokenListLaws.{first-place, after-on, word-due, word-part, steps}
 use Rattle.grammar.proofs.Laws.StartLaws.{begins-refused, begins-list, told}
 use Rattle.grammar.proofs.Tags.{no-word, no-sign}
@@ -47,7 +48,7 @@ returns-3 c =
     (rw (
       word-due _ _ (sym (t .before .before .token-at .ensures) ∙ t .t .given .1),
       told countOf (d .before .word-of .ensures) (d .parse-count .ensures) (n .least .given .1),
-      no-sign _ _ next commaSign tt (m .match3 .keys2),
+      no-sign _ _ next comma tt (m .match3 .keys2),
       first-place _ _ (sym next),
     ))
 
@@ -66,7 +67,7 @@ returns-4 c =
     (rw (
       word-due _ _ word,
       told countOf (d .before .word-of .ensures) (d .parse-count .ensures) (n .least .given .1),
-      after-on _ _ next refl commaSign refl,
+      after-on _ _ next refl comma refl,
     ))
     (omega arith)
 

@@ -3,7 +3,8 @@ use mathlib.Core.Path.{refl, sym, _∙_}
 use native.Mathlib.Omega.{arith}
 use Rattle.tokens.specs.Token.{nextOf}
 use Rattle.durations.specs.Duration.{durationOf}
-use Rattle.grammar.specs.Grammar.{closeSign, olderThanStart}
+use Rattle.grammar.specs.Grammar.{olderThanStart}
+use Rattle.classes.specs.Class.{closeBracket}
 use Rattle.grammar.proofs.Laws.TokenListLaws.{first-place, after-on, word-due, word-part, steps}
 use Rattle.grammar.proofs.Laws.StartLaws.{begins-refused, begins-leaf, told}
 use Rattle.grammar.proofs.Tags.{no-word, no-sign}
@@ -27,7 +28,7 @@ returns-2 c =
     begins-refused (c .refuse2 .ensures) (c .before .place-of2 .ensures)
     (rw (
       word-due _ _ (sym (t .before .before .token-at .ensures) ∙ t .t .given .1),
-      no-sign _ _ bracket closeSign tt (m .match2 .keys2),
+      no-sign _ _ bracket closeBracket tt (m .match2 .keys2),
       first-place _ _ (sym bracket),
     ))
 
@@ -50,7 +51,7 @@ returns-3 c =
     begins-leaf
     (rw (
       word-due _ _ word,
-      after-on _ _ bracket refl closeSign refl,
+      after-on _ _ bracket refl closeBracket refl,
       told durationOf (d .before .word-of .ensures) (d .parse-duration .ensures) (c .before .milliseconds .given .1),
     ))
     (omega arith)
@@ -64,7 +65,7 @@ returns-4 c =
     begins-refused (c .refuse3 .ensures) refl
     (rw (
       word-due _ _ (sym (t .before .before .token-at .ensures) ∙ t .t .given .1),
-      after-on _ _ (sym (u .before .before .token-at2 .ensures) ∙ u .bracket .given .1) refl closeSign refl,
+      after-on _ _ (sym (u .before .before .token-at2 .ensures) ∙ u .bracket .given .1) refl closeBracket refl,
       told durationOf (d .before .word-of .ensures) (d .parse-duration .ensures) (c .before .enum-told .given .1),
     ))
 

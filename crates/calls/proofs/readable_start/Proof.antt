@@ -3,7 +3,8 @@ use mathlib.Core.Path.{refl, sym, _∙_}
 use native.Mathlib.Omega.{arith}
 use Rattle.tokens.specs.Token.{nextOf}
 use Rattle.decimal.specs.Count.{countOf}
-use Rattle.grammar.specs.Grammar.{closeSign, readableStart}
+use Rattle.grammar.specs.Grammar.{readableStart}
+use Rattle.classes.specs.Class.{closeBracket}
 use Rattle.grammar.proofs.Laws.TokenListLaws.{first-place, after-on, word-due, word-part, steps}
 use Rattle.grammar.proofs.Laws.StartLaws.{begins-refused, begins-leaf, told}
 use Rattle.grammar.proofs.Tags.{no-word, no-sign}
@@ -47,7 +48,7 @@ returns-3 c =
     (rw (
       word-due _ _ (sym (t .before .before .token-at .ensures) ∙ t .t .given .1),
       told countOf (d .before .word-of .ensures) (d .parse-count .ensures) (n .count .given .1),
-      no-sign _ _ next closeSign tt (m .match3 .keys2),
+      no-sign _ _ next closeBracket tt (m .match3 .keys2),
       first-place _ _ (sym next),
     ))
 
@@ -66,7 +67,7 @@ returns-4 c =
     (rw (
       word-due _ _ word,
       told countOf (d .before .word-of .ensures) (d .parse-count .ensures) (n .count .given .1),
-      after-on _ _ next refl closeSign refl,
+      after-on _ _ next refl closeBracket refl,
     ))
     (omega arith)
 

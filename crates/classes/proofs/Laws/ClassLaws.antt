@@ -10,7 +10,8 @@ use native.Mathlib.Omega.{arith}
 use lib.Dec.{T, eqb, eqb→eq}
 use lib.ListN.{getD}
 use Rattle.ascii.proofs.Laws.TestLaws.{is-so, is-not}
-use Rattle.classes.specs.Class.{classOf, ofClass, faultsTo, faults}
+use Rattle.classes.specs.Class.{classOf, ofClass}
+use Rattle.classes.specs.Inner.ClassTable.{faultsTo, faults, IsClassTable}
 
 none-here : (v : Bool) (n : ℕ) → cond v n (suc n) ≡ 0 → T v
 none-here true n e = tt
@@ -29,7 +30,7 @@ up-to l (suc n) e k h =
     (λ (q : k < n). up-to l n (none-below (eqb (getD l n 0) (classOf n)) (faultsTo n l) e) k q)
     (eq-or-lt-of-le (le-of-suc-le-suc h))
 
-pub table-at : (l : List ℕ) → faults l ≡ 0 → (b : ℕ) → b < 256 → getD l b 0 ≡ classOf b
+pub table-at : (l : List ℕ) → IsClassTable l → (b : ℕ) → b < 256 → getD l b 0 ≡ classOf b
 unfolding faults
 table-at l e b h = up-to l 256 e b h
 

@@ -5,7 +5,7 @@ use Prim.Native.Nat.{ℕ, _≤_}
 use native.Mathlib.Omega.{arith}
 use lib.ListN.{length, take, length-append}
 use lib.Seq.{length-take-le}
-use Rattle.slices.specs.Written.{WrittenAt}
+use Rattle.slices.specs.Text.{WrittenAt}
 use Rattle.slices.proofs.Laws.WrittenLaws.{written-front}
 
 module _ {a b : List ℕ} {e : ℕ} {v : List ℕ} (x : WrittenAt a b 0 e v) where

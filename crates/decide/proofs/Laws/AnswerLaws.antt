@@ -6,7 +6,8 @@ use Prim.Native.Nat.{ℕ}
 use Rattle.refusals.specs.Refusals.{refusal, badImage, badStoreTable, twinName, badConfirmedList}
 use Rattle.rules.specs.Rule.{Rule, size}
 use Rattle.image.specs.Layout.{nodeCountIn}
-use Rattle.image.specs.Decode.{isSome, cellAt, decode}
+use Rattle.image.specs.Decode.{cellAt, decode}
+use Rattle.image.specs.Inner.Valid.{isSome}
 use Rattle.image.proofs.Laws.FitLaws.{isSome-true, isSome-false}
 use Rattle.store_table.specs.Stores.{isTable, isList, entriesIn, allNames, readyCount, twinOf}
 use Rattle.store_table.specs.declared.Twin.the-variants.{No, At}

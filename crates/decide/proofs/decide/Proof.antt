@@ -4,7 +4,8 @@ use mathlib.Core.Bool.{true}
 use native.Mathlib.Omega.{arith}
 use borrow.Author.Needs.{needs}
 use borrow.Author.Tests.{not-true, not-false}
-use Rattle.image.specs.Decode.{isSome, decode}
+use Rattle.image.specs.Decode.{decode}
+use Rattle.image.specs.Inner.Valid.{isSome}
 use Rattle.store_table.specs.Stores.{isTable, isList, entriesIn, twinOf}
 use Rattle.store_table.proofs.Laws.StoresLaws.{well-made-laid}
 use Rattle.store_table.proofs.Laws.BlankLaws.{zeros-blank}

@@ -9,7 +9,7 @@ use borrow.Author.Tests.{ltb-true, ltb-false, lt-ltb, le-ltb}
 use lib.Dec.{ltb}
 use lib.ListN.{length, set, length-append}
 use lib.Seq.{append-snoc}
-use Rattle.slices.specs.Written.{WrittenAt}
+use Rattle.slices.specs.Text.{WrittenAt}
 use Rattle.slices.proofs.Laws.WrittenLaws.{put-none, put-byte, put-before, put-length}
 use Rattle.decimal.specs.Decimal.{digitValue, decimalFrom, decimal}
 use Rattle.decimal.specs.Digits.{digit, digitsIn, digitsOf}

@@ -8,12 +8,13 @@ use native.Mathlib.Omega.{arith}
 use borrow.Author.Tests.{ne-eqb}
 use lib.ListN.{length, drop, length-append, drop-of-length-le}
 use Rattle.ascii.specs.Letters.{within}
-use Rattle.slices.specs.Written.{WrittenAt}
+use Rattle.slices.specs.Text.{WrittenAt}
 use Rattle.slices.proofs.Laws.WrittenLaws.{put-none, put-behind, put-length}
 use Rattle.slices.proofs.Laws.SearchLaws.{is-below, is-above}
 use Rattle.refusals.specs.declared.Refusal.{Refusal}
 use Rattle.lines.proofs.Laws.LinesLaws.{shown-length}
-use Rattle.store_table.specs.Stores.{Entry, writeOnly, namesStart, TableInBounds, countIn, entriesIn, writeOnlyNames}
+use Rattle.store_table.specs.Stores.{Entry, writeOnly, namesStart, countIn, entriesIn, writeOnlyNames}
+use Rattle.store_table.specs.Inner.Bounds.{TableInBounds}
 use Rattle.store_table.specs.Inner.Index.{Standing, EntryAt, lengthAt}
 use Rattle.store_table.proofs.Laws.WalkLaws.{length-entries, standing-start, standing-next, standing-here, entryAt}
 use Rattle.details.specs.Report.{confirmedLine, confirmedLines, detail}

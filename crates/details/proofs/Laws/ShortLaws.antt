@@ -4,7 +4,7 @@ use mathlib.Core.Bool.{Bool, true, false, cond, _&&_, and-eq-true-iff}
 use mathlib.Core.List.{List, [], _∷_}
 use Prim.Native.Nat.{ℕ, zero, suc, _+_, _*_, _≤_}
 use native.Mathlib.Omega.{arith}
-use borrow.Author.Tests.{leb-true}
+use borrow.Author.Tests.{leb-true, ltb-true, ltb-false}
 use lib.Dec.{eqb, leb, ltb}
 use lib.ListN.{length, take, drop, getD, length-append, length-take, length-drop}
 use Rattle.refusals.specs.Refusals.{row, table, rowOf}
@@ -12,16 +12,19 @@ use Rattle.refusals.specs.declared.Row.{Row}
 use Rattle.decimal.proofs.Laws.DigitsLaws.{digits-short}
 use Rattle.lines.specs.Lines.{meaningLine}
 use Rattle.lines.proofs.Laws.LinesLaws.{trimmed-length, shown-length}
-use Rattle.rules.specs.Rule.{size}
+use Rattle.rules.specs.Rule.{Rule}
+use Rattle.image.specs.Layout.{nodeCountIn}
 use Rattle.image.specs.Encode.{encode}
 use Rattle.image.specs.Decode.{nodeAt, cellAt, meaning}
 use Rattle.grammar.specs.Reading.{Read, rule, refused, readOf}
-use Rattle.grammar.proofs.Laws.FitsLaws.{read-length}
-use Rattle.store_table.specs.Stores.{TableInBounds, entriesFrom, entriesIn, modesIn, lengthsIn, nameBytesIn, sum, writeOnly, writeOnlyNames}
+use Rattle.grammar.proofs.Laws.FitsLaws.{read-decodes, read-length}
+use Rattle.store_table.specs.Stores.{entriesFrom, entriesIn, modesIn, lengthsIn, nameBytesIn, sum, writeOnly, writeOnlyNames}
+use Rattle.store_table.specs.Inner.Bounds.{TableInBounds}
 use Rattle.verdict.specs.declared.Verdict.{Verdict}
 use Rattle.verdict.specs.declared.Verdict.the-variants.{Pass, Refused}
-use Rattle.details.specs.Report.{verdictLine, nameIn, nodeName, confirmedLines}
-use Rattle.details.proofs.Laws.NodeNameLaws.{unnamed}
+use Rattle.image.proofs.Laws.InsideLaws.{Whole, decode-whole}
+use Rattle.details.specs.Report.{verdictLine, nodeNames, nodeName, confirmedLines}
+use Rattle.details.proofs.Laws.NodeNameLaws.{nameIn, unnamed, name-at, past-last}
 
 -- ---- the first line
 pub verdict-short : (v : Verdict) → length (verdictLine v) ≤ 45
@@ -55,18 +58,21 @@ unfolding meaning
 meant-short s n zero a = simp (length-take, length-drop) (omega arith)
 meant-short s n (suc k) a = rw (unnamed s n (suc k) a (λ e. omega arith)) (omega arith)
 
-pub name-short : (text : List ℕ) (i : ℕ) → length (nodeName (readOf text) i) ≤ 26_628
+named-short : (s : List ℕ) (n : ℕ) (r : Rule) (i : ℕ) → Whole s n r → length (getD (nodeNames r) i []) ≤ length s
 unfolding cellAt
+named-short s n r i w = go (ltb i n) refl
+  where
+    go : (b : Bool) → ltb i n ≡ b → length (getD (nodeNames r) i []) ≤ length s
+    go true h = let d = nodeAt s n i in rw (name-at s w i (ltb-true i n h)) (meant-short s n (d .kind) (d .arg))
+    go false h = rw (past-last s w i (ltb-false i n h)) (omega arith)
+
+pub name-short : (text : List ℕ) (i : ℕ) → length (nodeName (readOf text) i) ≤ 26_628
 name-short text i = go (readOf text) refl
   where
-    kept : (b : Bool) (w : List ℕ) → length w ≤ 26_628 → length (cond b w []) ≤ 26_628
-    kept true w h = h
-    kept false w h = omega arith
-
     go : (x : Read) → readOf text ≡ x → length (nodeName x i) ≤ 26_628
     go (rule r) q =
-        let d = nodeAt (encode r) (size r) i in
-        kept (ltb i (size r)) _ (omega (arith, meant-short (encode r) (size r) (d .kind) (d .arg), read-length text r q))
+        let w = decode-whole (encode r) refl (read-decodes text r q) in
+        omega (arith, named-short (encode r) (nodeCountIn (encode r)) r i w, read-length text r q)
     go (refused f) q = omega arith
 
 -- ---- the names of the write-only stores, with twelve bytes about each

@@ -6,7 +6,7 @@ use native.Mathlib.Omega.{arith}
 use borrow.Author.Needs.{needs}
 use lib.ListN.{length}
 use Rattle.slices.proofs.Laws.SearchLaws.{is-within}
-use Rattle.slices.specs.Written.{WrittenAt}
+use Rattle.slices.specs.Text.{WrittenAt}
 use Rattle.slices.proofs.Laws.WrittenLaws.{put-none, put-behind}
 use Rattle.decimal.proofs.Laws.DigitsLaws.{digits-short}
 use Rattle.lines.proofs.Laws.LinesLaws.{shown-length}

@@ -6,7 +6,7 @@ use lib.ListN.{length}
 use Rattle.refusals.specs.declared.Refusal.{Refusal}
 use Rattle.verdict.specs.declared.Verdict.{Verdict}
 use Rattle.verdict.specs.declared.Verdict.the-variants.{Refused}
-use Rattle.store_table.specs.Stores.{TableInBounds}
+use Rattle.store_table.specs.Inner.Bounds.{TableInBounds}
 
 -- what a refusal that judging gives tells: 3 to 15 are of a text of at most 2,048 bytes, and 18 has the index of one of 64 stores
 pub record Due (text : List ℕ) (f : Refusal) : Type 0 where

@@ -18,7 +18,8 @@ use Rattle.slices.proofs.Laws.TextLaws.{end-ge, end-le}
 use Rattle.classes.specs.Class.{classOf, ofClass, blank}
 use Rattle.decimal.specs.Decimal.{decimal}
 use Rattle.decimal.proofs.Laws.DecimalLaws.{decimal-small}
-use Rattle.durations.specs.Duration.{NamedUnit, unit, units, unitAt, isUnitByte, digitsEnd, unitStart, unitEnd, isPart, amountOf, nextPart, partAt, plus, partThen, partsFrom, durationOf}
+use Rattle.durations.specs.Duration.{NamedUnit, unit, units, isUnitByte, digitsEnd, unitStart, unitEnd, isPart, amountOf, nextPart, partAt, plus, partThen, partsFrom, durationOf}
+use Rattle.durations.specs.Inner.Units.{unitAt}
 use Rattle.decimal.specs.declared.Parsed.{Parsed}
 use Rattle.decimal.specs.declared.Parsed.the-variants.{Value, Invalid}
 use Rattle.durations.specs.declared.duration.Part.{Part}

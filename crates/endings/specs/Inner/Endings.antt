@@ -4,6 +4,7 @@ use mathlib.Core.Path.{_≡_}
 use mathlib.Core.List.{List}
 use lib.Dec.{eqb}
 use lib.ListN.{getD}
+use Rattle.image.specs.Layout.{tagKind}
 use Rattle.classes.specs.Class.{closeBracket, comma}
 use Rattle.refusals.specs.declared.Refusal.{Refusal}
 use Rattle.refusals.specs.Refusals.{refusal, bracketExpected, emptyList}
@@ -26,7 +27,7 @@ operandBy (To next) n = OperandAt next n
 operandBy Off n = None
 
 abbrev pub nextOperand : List ℕ → ℕ → ℕ → List ℕ → ℕ → ℕ → Operand
-nextOperand s at sign tags n kind = operandBy (nextOfClass sign (tokenAt s at)) (keepIf (eqb (getD tags (n - 1) 0 % 256) kind) n)
+nextOperand s at sign tags n kind = operandBy (nextOfClass sign (tokenAt s at)) (keepIf (eqb (tagKind (getD tags (n - 1) 0)) kind) n)
 
 -- the end of a group, by what follows a closing bracket; where there is none, another token is at p
 abbrev pub closedBy : Next → ℕ → ℕ → ℕ → ParseEnd

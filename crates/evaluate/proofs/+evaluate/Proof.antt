@@ -16,7 +16,7 @@ use Rattle.image.proofs.Laws.FitLaws.{cell-size}
 use Rattle.image.proofs.Laws.EncodeLaws.{size-pos}
 use Rattle.evaluate.specs.Inner.By.{saysAt}
 use Rattle.evaluate.proofs.Laws.SubtreeLaws.{Walks, walks-start, walks-next, Last, last, last-here, last-back, Answered, moved-few, leaf-done, one-done, join-done}
-use Rattle.image.proofs.Laws.KindLaws.{above-leaf, no-leaf, no-join}
+use Rattle.image.proofs.Laws.KindLaws.{other-kind, join-kind-no-leaf, no-leaf, no-join}
 use Rattle.image.proofs.Laws.CellLaws.{cell-what}
 use Rattle.evaluate.proofs.evaluate.Reads as evaluate
 use Rattle.evaluate.proofs.evaluate.Kinds as evaluate-kinds
@@ -79,7 +79,7 @@ the-last : (t : ℕ) (c : evaluate-lts.In-loop (given t) (evaluate-at t) evaluat
 the-last t c =
     let s = c .before .before .before .before .before .before .before in
     let d = c .before .before .before .before .node-at in
-    last _ _ _ _ (c .before .loop .inv .2) (s .pre .1 .0 .here) (λ l e. no-leaf (s .args .image .now) (s .args .n) (d .result .kind) (d .result .arg) (above-leaf _ (c .before .before .before .if1 .left)) l (cell-what _ _ _ (d .ensures) ∙ e)) (c .loop-test .taken)
+    last _ _ _ _ (c .before .loop .inv .2) (s .pre .1 .0 .here) (λ l e. no-leaf (s .args .image .now) (s .args .n) (d .result .kind) (d .result .arg) (join-kind-no-leaf _ (c .before .before .before .if1 .left) (omega arith)) l (cell-what _ _ _ (d .ensures) ∙ e)) (c .loop-test .taken)
 
 evaluate-node-at-requires-2 : (t : ℕ) → evaluate-lts.Need-node-at-requires-2 (given t) (evaluate-at t) evaluate.Post evaluate-Inv-loop evaluate-μ-loop
 evaluate-node-at-requires-2 t c κs =
@@ -162,12 +162,12 @@ evaluate-returns t c =
 evaluate-returns-2 : (t : ℕ) → evaluate-lts.Need-returns-2 (given t) (evaluate-at t) evaluate.Post evaluate-Inv-loop evaluate-μ-loop
 evaluate-returns-2 t c =
     let d = c .before .before .before .before .before .node-at in
-    join-done _ _ _ _ (c .before .before .loop .inv .2) (cell-what _ _ _ (d .ensures)) (no-leaf _ _ (d .result .kind) _ (above-leaf _ (c .before .before .before .before .if1 .left))) (c .before .loop-test .left) (c .join-says .ensures _ _)
+    join-done _ _ _ _ (c .before .before .loop .inv .2) (cell-what _ _ _ (d .ensures)) (no-leaf _ _ (d .result .kind) _ (join-kind-no-leaf _ (c .before .before .before .before .if1 .left) (omega arith))) (c .before .loop-test .left) (c .join-says .ensures _ _)
 
 evaluate-returns-3 : (t : ℕ) → evaluate-lts.Need-returns-3 (given t) (evaluate-at t) evaluate.Post evaluate-Inv-loop evaluate-μ-loop
 evaluate-returns-3 t c =
     let d = c .before .before .node-at in
-    leaf-done _ _ _ _ (cell-what _ _ _ (d .ensures)) (no-join _ _ (d .result .kind) _ (λ h i. omega arith)) (λ l e. absurd (no-leaf _ _ (d .result .kind) _ (above-leaf _ (omega arith)) l e))
+    leaf-done _ _ _ _ (cell-what _ _ _ (d .ensures)) (no-join _ _ (d .result .kind) _ (λ h i. omega arith)) (λ l e. absurd (no-leaf _ _ (d .result .kind) _ (other-kind _ (λ q. omega arith) (λ q. omega arith) (λ q. omega arith)) l e))
 
 pub +evaluate-spec : {M : Type 1} → statement M
 +evaluate-spec = close μ-evaluate λ t. evaluate-lts.spec (given t)

@@ -10,7 +10,8 @@ use Rattle.refusals.specs.Refusals.{refusal, bracketExpected}
 use Rattle.tokens.specs.declared.Token.{Token}
 use Rattle.tokens.specs.Token.{tokensFrom}
 use Rattle.rules.specs.Rule.{Join, all, any, Rule, node, Rules, nil, more}
-use Rattle.grammar.specs.Grammar.{closeSign, commaSign, andSign, orSign, rest, missing, after, firstPlace, PrimaryStart, aLeaf, aGroup, aList, refused, primaryStart, ParseResult, got, bad, onto, onRest, closeAfter, byStart, orIn, orMore, andIn, andMore, primaryIn, listMore}
+use Rattle.grammar.specs.Grammar.{rest, missing, after, firstPlace, PrimaryStart, aLeaf, aGroup, aList, refused, primaryStart, ParseResult, got, bad, onto, onRest, closeAfter, byStart, orIn, orMore, andIn, andMore, primaryIn, listMore}
+use Rattle.classes.specs.Class.{closeBracket, comma, ampersand, bar}
 use Rattle.grammar.specs.Reading.{ended, parseOf}
 use Rattle.grammar.specs.Inner.Rules.{headRest, leftOf, orOf, andOf, primaryOf, orRest, andRest, listRest}
 use Rattle.grammar.proofs.Laws.TakenLaws.{Sign, by-after, on-rest, Begun, head-begun, MadeRule, Holds, or-made, and-made, primary-made}
@@ -60,28 +61,28 @@ module _ (s : List ℕ) where
   unfolding orIn
   or-left zero d g = omega arith
   or-left (suc f) d (bad r) = omega arith
-  or-left (suc f) d (got l us) = turn-left orSign any (andIn f s d) (orMore f s d) (omega arith) (and-made s f d) (or-left f d) l us
+  or-left (suc f) d (got l us) = turn-left bar any (andIn f s d) (orMore f s d) (omega arith) (and-made s f d) (or-left f d) l us
 
   pub and-left : (f d : ℕ) (g : ParseResult) → leftOf (andMore f s d g) ≤ leftOf g
   unfolding orIn
   and-left zero d g = omega arith
   and-left (suc f) d (bad r) = omega arith
-  and-left (suc f) d (got l us) = turn-left andSign all (primaryIn f s d) (andMore f s d) (omega arith) (primary-made s f d) (and-left f d) l us
+  and-left (suc f) d (got l us) = turn-left ampersand all (primaryIn f s d) (andMore f s d) (omega arith) (primary-made s f d) (and-left f d) l us
 
   pub list-left : (f d : ℕ) (j : Join) (rs : Rules) (g : ParseResult) → leftOf (listMore f s d j rs g) ≤ leftOf g
   unfolding orIn
   list-left zero d j rs g = omega arith
   list-left (suc f) d j rs (bad r) = omega arith
   list-left (suc f) d j rs (got r us) =
-      on-rest (λ g. leftOf g ≤ length us) commaSign us _ _ (omega arith)
+      on-rest (λ g. leftOf g ≤ length us) comma us _ _ (omega arith)
       (λ vs t. omega (arith, list-left f d j (more rs r) (orIn f s (d + 1) vs), made-left s vs (orIn f s (d + 1) vs) (or-made s f (d + 1) vs)))
-      (on-rest (λ g. leftOf g ≤ length us) closeSign us _ _ (omega arith) (λ vs t. omega arith) (omega arith))
+      (on-rest (λ g. leftOf g ≤ length us) closeBracket us _ _ (omega arith) (λ vs t. omega arith) (omega arith))
 
 -- ---- with calls enough their bound does not matter
 head-same : (h : PrimaryStart) (i i′ : List Token → ParseResult) (l l′ : Join → List Token → ParseResult) → ((us : List Token) → headRest h ≡ rest us → i us ≡ i′ us) → ((j : Join) (us : List Token) → headRest h ≡ rest us → l j us ≡ l′ j us) → byStart h i l ≡ byStart h i′ l′
 head-same (aLeaf x us) i i′ l l′ p q = refl
 head-same (aGroup us) i i′ l l′ p q = ap closeAfter (p us refl)
-head-same (aList j place us) i i′ l l′ p q = ap (onRest (after closeSign us) _) (q j us refl)
+head-same (aList j place us) i i′ l l′ p q = ap (onRest (after closeBracket us) _) (q j us refl)
 head-same (refused f) i i′ l l′ p q = refl
 
 rest-same : (k : ℕ) (us : List Token) (x y : List Token → ParseResult) (o : ParseResult) → Sign k → ((vs : List Token) → length vs < length us → x vs ≡ y vs) → onRest (after k us) x o ≡ onRest (after k us) y o
@@ -113,7 +114,7 @@ module _ (s : List ℕ) where
     or-more-same (suc f) zero d x h i = absurd (omega arith)
     or-more-same (suc f) (suc g) d (bad r) h i = refl
     or-more-same (suc f) (suc g) d (got l us) h i =
-        turn-same orSign any (andIn f s d) (andIn g s d) (orMore f s d) (orMore g s d) (omega arith) (and-made s f d) l us
+        turn-same bar any (andIn f s d) (andIn g s d) (orMore f s d) (orMore g s d) (omega arith) (and-made s f d) l us
         (λ vs t. and-same f g d vs (omega arith) (omega arith)) (λ x t. or-more-same f g d x (omega arith) (omega arith))
 
     and-same : (f g d : ℕ) (ts : List Token) → 3 * length ts + 2 ≤ f → 3 * length ts + 2 ≤ g → andIn f s d ts ≡ andIn g s d ts
@@ -128,7 +129,7 @@ module _ (s : List ℕ) where
     and-more-same (suc f) zero d x h i = absurd (omega arith)
     and-more-same (suc f) (suc g) d (bad r) h i = refl
     and-more-same (suc f) (suc g) d (got l us) h i =
-        turn-same andSign all (primaryIn f s d) (primaryIn g s d) (andMore f s d) (andMore g s d) (omega arith) (primary-made s f d) l us
+        turn-same ampersand all (primaryIn f s d) (primaryIn g s d) (andMore f s d) (andMore g s d) (omega arith) (primary-made s f d) l us
         (λ vs t. primary-same f g d vs (omega arith) (omega arith)) (λ x t. and-more-same f g d x (omega arith) (omega arith))
 
     primary-same : (f g d : ℕ) (ts : List Token) → 3 * length ts + 1 ≤ f → 3 * length ts + 1 ≤ g → primaryIn f s d ts ≡ primaryIn g s d ts
@@ -146,7 +147,7 @@ module _ (s : List ℕ) where
     list-more-same (suc f) zero d j rs x h i = absurd (omega arith)
     list-more-same (suc f) (suc g) d j rs (bad r) h i = refl
     list-more-same (suc f) (suc g) d j rs (got r us) h i =
-        rest-same commaSign us _ _ _ (omega arith)
+        rest-same comma us _ _ _ (omega arith)
         (λ vs t. then-same vs (orIn f s (d + 1) vs) (orIn g s (d + 1) vs) (listMore f s d j (more rs r)) (listMore g s d j (more rs r)) (or-made s f (d + 1) vs)
         (or-same f g (d + 1) vs (omega arith) (omega arith)) (λ x k. list-more-same f g d j (more rs r) x (omega arith) (omega arith)))
 
@@ -193,18 +194,18 @@ module _ (s : List ℕ) (d : ℕ) where
   or-bad r = refl
 
   module _ (l : Rule) (us : List Token) where
-    or-step : orRest s d (got l us) ≡ onRest (after orSign us) (λ vs. orRest s d (onto any l (andOf s d vs))) (got l us)
+    or-step : orRest s d (got l us) ≡ onRest (after bar us) (λ vs. orRest s d (onto any l (andOf s d vs))) (got l us)
     unfolding orIn
     or-step =
         let f = 3 * length us in
         sym (or-more-fuel s (suc f) d (got l us) (omega arith)) ∙
-        turn-same s orSign any (andIn f s d) (andOf s d) (orMore f s d) (orRest s d) (omega arith) (and-made s f d) l us
+        turn-same s bar any (andIn f s d) (andOf s d) (orMore f s d) (orRest s d) (omega arith) (and-made s f d) l us
         (λ vs t. and-fuel s f d vs (omega arith)) (λ g t. or-more-fuel s f d g (omega arith))
 
-    pub or-end : after orSign us ≡ missing → orRest s d (got l us) ≡ got l us
+    pub or-end : after bar us ≡ missing → orRest s d (got l us) ≡ got l us
     or-end e = or-step ∙ rw e
 
-    pub or-on : {vs : List Token} → after orSign us ≡ rest vs → orRest s d (got l us) ≡ orRest s d (onto any l (andOf s d vs))
+    pub or-on : {vs : List Token} → after bar us ≡ rest vs → orRest s d (got l us) ≡ orRest s d (onto any l (andOf s d vs))
     or-on e = or-step ∙ rw e
 
   -- and
@@ -220,18 +221,18 @@ module _ (s : List ℕ) (d : ℕ) where
   and-bad r = refl
 
   module _ (l : Rule) (us : List Token) where
-    and-step : andRest s d (got l us) ≡ onRest (after andSign us) (λ vs. andRest s d (onto all l (primaryOf s d vs))) (got l us)
+    and-step : andRest s d (got l us) ≡ onRest (after ampersand us) (λ vs. andRest s d (onto all l (primaryOf s d vs))) (got l us)
     unfolding orIn
     and-step =
         let f = 3 * length us in
         sym (and-more-fuel s (suc f) d (got l us) (omega arith)) ∙
-        turn-same s andSign all (primaryIn f s d) (primaryOf s d) (andMore f s d) (andRest s d) (omega arith) (primary-made s f d) l us
+        turn-same s ampersand all (primaryIn f s d) (primaryOf s d) (andMore f s d) (andRest s d) (omega arith) (primary-made s f d) l us
         (λ vs t. primary-fuel s f d vs (omega arith)) (λ g t. and-more-fuel s f d g (omega arith))
 
-    pub and-end : after andSign us ≡ missing → andRest s d (got l us) ≡ got l us
+    pub and-end : after ampersand us ≡ missing → andRest s d (got l us) ≡ got l us
     and-end e = and-step ∙ rw e
 
-    pub and-on : {vs : List Token} → after andSign us ≡ rest vs → andRest s d (got l us) ≡ andRest s d (onto all l (primaryOf s d vs))
+    pub and-on : {vs : List Token} → after ampersand us ≡ rest vs → andRest s d (got l us) ≡ andRest s d (onto all l (primaryOf s d vs))
     and-on e = and-step ∙ rw e
 
   -- an argument of a list, and what goes on behind it
@@ -257,20 +258,20 @@ module _ (s : List ℕ) (d : ℕ) where
     list-bad r = refl
 
     module _ (r : Rule) (us : List Token) where
-      list-step : listRest s d j rs (got r us) ≡ onRest (after commaSign us) (λ vs. listRest s d j (more rs r) (orOf s (d + 1) vs)) (onRest (after closeSign us) (λ vs. got (node j rs r) vs) (bad (refusal bracketExpected (firstPlace us))))
+      list-step : listRest s d j rs (got r us) ≡ onRest (after comma us) (λ vs. listRest s d j (more rs r) (orOf s (d + 1) vs)) (onRest (after closeBracket us) (λ vs. got (node j rs r) vs) (bad (refusal bracketExpected (firstPlace us))))
       unfolding orIn
       list-step =
           let f = 3 * length us in
           sym (list-more-fuel s (suc f) d (got r us) (omega arith) j rs) ∙
-          rest-same commaSign us _ _ _ (omega arith) (λ vs t. args-same f j (more rs r) vs (omega arith))
+          rest-same comma us _ _ _ (omega arith) (λ vs t. args-same f j (more rs r) vs (omega arith))
 
-      pub list-on : {vs : List Token} → after commaSign us ≡ rest vs → listRest s d j rs (got r us) ≡ listRest s d j (more rs r) (orOf s (d + 1) vs)
+      pub list-on : {vs : List Token} → after comma us ≡ rest vs → listRest s d j rs (got r us) ≡ listRest s d j (more rs r) (orOf s (d + 1) vs)
       list-on e = list-step ∙ rw e
 
-      pub list-end : {vs : List Token} → after commaSign us ≡ missing → after closeSign us ≡ rest vs → listRest s d j rs (got r us) ≡ got (node j rs r) vs
+      pub list-end : {vs : List Token} → after comma us ≡ missing → after closeBracket us ≡ rest vs → listRest s d j rs (got r us) ≡ got (node j rs r) vs
       list-end e q = list-step ∙ rw (e, q)
 
-      pub list-open : after commaSign us ≡ missing → after closeSign us ≡ missing → listRest s d j rs (got r us) ≡ bad (refusal bracketExpected (firstPlace us))
+      pub list-open : after comma us ≡ missing → after closeBracket us ≡ missing → listRest s d j rs (got r us) ≡ bad (refusal bracketExpected (firstPlace us))
       list-open e q = list-step ∙ rw (e, q)
 
 -- ---- a text's expression

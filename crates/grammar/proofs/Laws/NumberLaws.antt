@@ -16,7 +16,8 @@ use Rattle.tokens.specs.Inner.Bounds.{Lexed}
 use Rattle.tokens.proofs.Laws.TokenLaws.{by-cond, lexed}
 use Rattle.rules.specs.Rule.{Join, all, any, Rule, Rules, nil, more}
 use Rattle.grammar.specs.Grammar as grammar
-use Rattle.grammar.specs.Grammar.{closeSign, commaSign, andSign, orSign, after, PrimaryStart, aLeaf, aGroup, aList, primaryStart, ParseResult, got, bad, onto, onRest, closeAfter, byStart, orIn, orMore, andIn, andMore, primaryIn, listMore}
+use Rattle.grammar.specs.Grammar.{after, PrimaryStart, aLeaf, aGroup, aList, primaryStart, ParseResult, got, bad, onto, onRest, closeAfter, byStart, orIn, orMore, andIn, andMore, primaryIn, listMore}
+use Rattle.classes.specs.Class.{closeBracket, comma, ampersand, bar}
 use Rattle.grammar.specs.Reading.{Read, rule, refused, atEnd, ended, parseOf, scannedOf, readOf}
 use Rattle.grammar.specs.Inner.Rules.{leftOf}
 use Rattle.grammar.proofs.Laws.TakenLaws.{Sign, Numbered, Begun, head-begun, MadeRule, Holds, on-rest, or-made, and-made, primary-made}
@@ -35,7 +36,7 @@ onto-number j l (bad f) n = n
 
 -- a bracket that closes
 closed-number : (g : ParseResult) → GotOr g → GotOr (closeAfter g)
-closed-number (got r us) n = on-rest GotOr closeSign us (λ vs. got r vs) _ (omega arith) (λ vs t. tt) (omega arith)
+closed-number (got r us) n = on-rest GotOr closeBracket us (λ vs. got r vs) _ (omega arith) (λ vs t. tt) (omega arith)
 closed-number (bad f) n = n
 
 module _ (s : List ℕ) where
@@ -43,7 +44,7 @@ module _ (s : List ℕ) where
   head-number : (ts : List Token) (h : PrimaryStart) (inner : List Token → ParseResult) (list : Join → List Token → ParseResult) → Begun s ts h → ((us : List Token) → length us < length ts → GotOr (inner us)) → ((j : Join) (us : List Token) → length us < length ts → GotOr (list j us)) → GotOr (byStart h inner list)
   head-number ts (aLeaf l us) inner list b i e = tt
   head-number ts (aGroup us) inner list b i e = closed-number (inner us) (i us (b .fewer))
-  head-number ts (aList j p us) inner list b i e = on-rest GotOr closeSign us _ (list j us) (omega arith) (λ vs t. omega arith) (e j us (b .0 .fewer))
+  head-number ts (aList j p us) inner list b i e = on-rest GotOr closeBracket us _ (list j us) (omega arith) (λ vs t. omega arith) (e j us (b .0 .fewer))
   head-number ts (grammar.refused f) inner list b i e = b
 
   -- a chain's turn
@@ -66,7 +67,7 @@ module _ (s : List ℕ) where
     or-more-number zero d g h n = absurd (omega arith)
     or-more-number (suc f) d (bad r) h n = n
     or-more-number (suc f) d (got l us) h n =
-        turn-number orSign any (andIn f s d) (orMore f s d) (omega arith) (and-made s f d) l us
+        turn-number bar any (andIn f s d) (orMore f s d) (omega arith) (and-made s f d) l us
         (λ vs t. and-number f d vs (omega arith)) (λ g t n. or-more-number f d g (omega arith) n)
 
     and-number : (f d : ℕ) (ts : List Token) → 3 * length ts + 2 ≤ f → GotOr (andIn f s d ts)
@@ -78,7 +79,7 @@ module _ (s : List ℕ) where
     and-more-number zero d g h n = absurd (omega arith)
     and-more-number (suc f) d (bad r) h n = n
     and-more-number (suc f) d (got l us) h n =
-        turn-number andSign all (primaryIn f s d) (andMore f s d) (omega arith) (primary-made s f d) l us
+        turn-number ampersand all (primaryIn f s d) (andMore f s d) (omega arith) (primary-made s f d) l us
         (λ vs t. primary-number f d vs (omega arith)) (λ g t n. and-more-number f d g (omega arith) n)
 
     primary-number : (f d : ℕ) (ts : List Token) → 3 * length ts + 1 ≤ f → GotOr (primaryIn f s d ts)
@@ -92,9 +93,9 @@ module _ (s : List ℕ) where
     list-more-number zero d j rs g h n = absurd (omega arith)
     list-more-number (suc f) d j rs (bad r) h n = n
     list-more-number (suc f) d j rs (got r us) h n =
-        on-rest GotOr commaSign us _ _ (omega arith)
+        on-rest GotOr comma us _ _ (omega arith)
         (λ vs t. list-more-number f d j (more rs r) (orIn f s (d + 1) vs) (omega (arith, made-left s vs (orIn f s (d + 1) vs) (or-made s f (d + 1) vs))) (or-number f (d + 1) vs (omega arith)))
-        (on-rest GotOr closeSign us _ _ (omega arith) (λ vs t. tt) (omega arith))
+        (on-rest GotOr closeBracket us _ _ (omega arith) (λ vs t. tt) (omega arith))
 
 -- ---- the tokens of a text
 -- they are clean, or refused with such a number

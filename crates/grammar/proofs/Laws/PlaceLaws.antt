@@ -24,7 +24,9 @@ use Rattle.rules.specs.Rule.{Join, all, any, Rule, Rules, nil, more}
 use Rattle.grammar.specs.declared.Function.{Function}
 use Rattle.grammar.specs.declared.Function.the-variants.{OlderThan, Readable, Any, All, AtLeast, Unknown}
 use Rattle.grammar.specs.Grammar as grammar
-use Rattle.grammar.specs.Grammar.{tokenKind, openSign, closeSign, commaSign, andSign, orSign, Rest, rest, missing, restIf, after, firstPlace, PrimaryStart, aLeaf, aGroup, aList, closed, expectedWord, requireWord, valued, olderThanStart, readableStart, afterComma, atLeastStart, functionOf, callStart, opened, unquotedStart, wordStart, primaryStart, ParseResult, got, bad, onto, onRest, closeAfter, byStart, orIn, orMore, andIn, andMore, primaryIn, listMore}
+use Rattle.grammar.specs.Grammar.{tokenKind, Rest, rest, missing, restIf, after, firstPlace, PrimaryStart, aLeaf, aGroup, aList, expecting, expectedWord, requireWord, valued, olderThanStart, readableStart, atLeastStart, functionOf, callStart, opened, unquotedStart, wordStart, primaryStart, ParseResult, got, bad, onto, onRest, closeAfter, byStart, orIn, orMore, andIn, andMore, primaryIn, listMore}
+use Rattle.refusals.specs.Refusals.{bracketExpected, missingArgument}
+use Rattle.classes.specs.Class.{openBracket, closeBracket, comma, ampersand, bar}
 use Rattle.grammar.specs.Reading.{Read, rule, refused, atEnd, ended, parseOf, scannedOf, readOf}
 
 -- ---- places of at most m: of tokens, of those left, and of a refusal
@@ -62,13 +64,10 @@ module _ (m : ℕ) where
   first-placed (t ∷ ts) h = h .0
 
   -- ---- how a primary begins
-  closed-placed : (r : Rest) (p : ℕ) (then : List Token → PrimaryStart) → RestPlaced m r → p ≤ m → ((ts : List Token) → Placed m ts → HeadPlaced m (then ts)) → HeadPlaced m (closed r p then)
-  closed-placed (rest ts) p then h l f = f ts h
-  closed-placed missing p then h l f = l
-
-  comma-placed : (r : Rest) (p : ℕ) (then : List Token → PrimaryStart) → RestPlaced m r → p ≤ m → ((ts : List Token) → Placed m ts → HeadPlaced m (then ts)) → HeadPlaced m (afterComma r p then)
-  comma-placed (rest ts) p then h l f = f ts h
-  comma-placed missing p then h l f = l
+  expecting-placed : (number : ℕ) (r : Rest) (p : ℕ) (then : List Token → PrimaryStart) → RestPlaced m r → p ≤ m →
+      ((ts : List Token) → Placed m ts → HeadPlaced m (then ts)) → HeadPlaced m (expecting number r p then)
+  expecting-placed number (rest ts) p then h l f = f ts h
+  expecting-placed number missing p then h l f = l
 
   valued-placed : (x : Parsed) (number p : ℕ) (then : ℕ → PrimaryStart) → p ≤ m → ((n : ℕ) → HeadPlaced m (then n)) → HeadPlaced m (valued x number p then)
   valued-placed (Value n) number p then l f = f n
@@ -91,7 +90,7 @@ module _ (m : ℕ) where
     unfolding olderThanStart
     older-placed ts h =
         due-placed ts _ h (λ p w us l k.
-        closed-placed (after closeSign us) (firstPlace us) _ (after-placed closeSign us k) (first-placed us k) (λ vs e.
+        expecting-placed bracketExpected (after closeBracket us) (firstPlace us) _ (after-placed closeBracket us k) (first-placed us k) (λ vs e.
         valued-placed (durationOf w) _ p _ l (λ n. e)))
 
     readable-placed : (ts : List Token) → Placed m ts → HeadPlaced m (readableStart s ts)
@@ -99,14 +98,14 @@ module _ (m : ℕ) where
     readable-placed ts h =
         due-placed ts _ h (λ p w us l k.
         valued-placed (countOf w) _ p _ l (λ n.
-        closed-placed (after closeSign us) (firstPlace us) _ (after-placed closeSign us k) (first-placed us k) (λ vs e. e)))
+        expecting-placed bracketExpected (after closeBracket us) (firstPlace us) _ (after-placed closeBracket us k) (first-placed us k) (λ vs e. e)))
 
     at-least-placed : (place : ℕ) (ts : List Token) → place ≤ m → Placed m ts → HeadPlaced m (atLeastStart s place ts)
     unfolding atLeastStart
     at-least-placed place ts at h =
         due-placed ts _ h (λ p w us l k.
         valued-placed (countOf w) _ p _ l (λ n.
-        comma-placed (after commaSign us) (firstPlace us) _ (after-placed commaSign us k) (first-placed us k) (λ vs e. (at, e))))
+        expecting-placed missingArgument (after comma us) (firstPlace us) _ (after-placed comma us k) (first-placed us k) (λ vs e. (at, e))))
 
     call-placed : (place : ℕ) (x : Function) (ts : List Token) → place ≤ m → Placed m ts → HeadPlaced m (callStart s place x ts)
     call-placed place OlderThan ts at h = older-placed ts h
@@ -125,7 +124,7 @@ module _ (m : ℕ) where
 
     word-placed : (d place : ℕ) (w : List ℕ) (q : Bool) (ts : List Token) → place ≤ m → Placed m ts → HeadPlaced m (wordStart s d place w q ts)
     word-placed d place w true ts at h = h
-    word-placed d place w false ts at h = unquoted-placed d place w ts (after openSign ts) at h (after-placed openSign ts h)
+    word-placed d place w false ts at h = unquoted-placed d place w ts (after openBracket ts) at h (after-placed openBracket ts h)
 
     head-placed : (d : ℕ) (ts : List Token) → Placed m ts → HeadPlaced m (primaryStart s d ts)
     unfolding primaryStart placeOf
@@ -152,13 +151,13 @@ module _ (m : ℕ) where
   onto-placed j l (bad f) h = h
 
   close-placed : (g : ParseResult) → GotPlaced m g → GotPlaced m (closeAfter g)
-  close-placed (got r ts) h = on-rest-placed closeSign ts _ _ h (λ us k. k) (first-placed ts h)
+  close-placed (got r ts) h = on-rest-placed closeBracket ts _ _ h (λ us k. k) (first-placed ts h)
   close-placed (bad f) h = h
 
   by-head-placed : (x : PrimaryStart) (inner : List Token → ParseResult) (list : Join → List Token → ParseResult) → HeadPlaced m x → ((ts : List Token) → Placed m ts → GotPlaced m (inner ts)) → ((j : Join) (ts : List Token) → Placed m ts → GotPlaced m (list j ts)) → GotPlaced m (byStart x inner list)
   by-head-placed (aLeaf l ts) inner list h i e = h
   by-head-placed (aGroup ts) inner list h i e = close-placed (inner ts) (i ts h)
-  by-head-placed (aList j p ts) inner list h i e = on-rest-placed closeSign ts _ (list j ts) (h .1) (λ us k. h .0) (e j ts (h .1))
+  by-head-placed (aList j p ts) inner list h i e = on-rest-placed closeBracket ts _ (list j ts) (h .1) (λ us k. h .0) (e j ts (h .1))
   by-head-placed (grammar.refused f) inner list h i e = h
 
   module _ (s : List ℕ) where
@@ -173,7 +172,7 @@ module _ (m : ℕ) where
       or-more-placed zero d g h = omega arith
       or-more-placed (suc f) d (bad r) h = h
       or-more-placed (suc f) d (got l ts) h =
-          on-rest-placed orSign ts _ (got l ts) h (λ us k. or-more-placed f d (onto any l (andIn f s d us)) (onto-placed any l (andIn f s d us) (and-placed f d us k))) h
+          on-rest-placed bar ts _ (got l ts) h (λ us k. or-more-placed f d (onto any l (andIn f s d us)) (onto-placed any l (andIn f s d us) (and-placed f d us k))) h
 
       and-placed : (f d : ℕ) (ts : List Token) → Placed m ts → GotPlaced m (andIn f s d ts)
       and-placed zero d ts h = omega arith
@@ -183,7 +182,7 @@ module _ (m : ℕ) where
       and-more-placed zero d g h = omega arith
       and-more-placed (suc f) d (bad r) h = h
       and-more-placed (suc f) d (got l ts) h =
-          on-rest-placed andSign ts _ (got l ts) h (λ us k. and-more-placed f d (onto all l (primaryIn f s d us)) (onto-placed all l (primaryIn f s d us) (primary-placed f d us k))) h
+          on-rest-placed ampersand ts _ (got l ts) h (λ us k. and-more-placed f d (onto all l (primaryIn f s d us)) (onto-placed all l (primaryIn f s d us) (primary-placed f d us k))) h
 
       primary-placed : (f d : ℕ) (ts : List Token) → Placed m ts → GotPlaced m (primaryIn f s d ts)
       primary-placed zero d ts h = omega arith
@@ -196,8 +195,8 @@ module _ (m : ℕ) where
       list-more-placed zero d j rs g h = omega arith
       list-more-placed (suc f) d j rs (bad r) h = h
       list-more-placed (suc f) d j rs (got r ts) h =
-          on-rest-placed commaSign ts _ _ h (λ us k. list-more-placed f d j (more rs r) (orIn f s (d + 1) us) (or-placed f (d + 1) us k))
-          (on-rest-placed closeSign ts _ _ h (λ us k. k) (first-placed ts h))
+          on-rest-placed comma ts _ _ h (λ us k. list-more-placed f d j (more rs r) (orIn f s (d + 1) us) (or-placed f (d + 1) us k))
+          (on-rest-placed closeBracket ts _ _ h (λ us k. k) (first-placed ts h))
 
 -- ---- the tokens of a text
 onward-placed : (len at : ℕ) (t : Token) (later : ℕ → List Token) → Lexed len at t → ((n : ℕ) → Placed len (later n)) → Placed len (onward t (nextOf t) later)

@@ -20,7 +20,8 @@ use Rattle.tokens.specs.Token.{placeOf, nextOf, tokenAt, onward, tokensFrom}
 use Rattle.tokens.proofs.Laws.TokenLaws.{tokens-are, left-some}
 use Rattle.rules.specs.Rule.{named}
 use Rattle.grammar.specs.Grammar as grammar
-use Rattle.grammar.specs.Grammar.{tokenKind, openSign, aLeaf, aGroup, aList, refuse, startBy, primaryStart, functionOf}
+use Rattle.grammar.specs.Grammar.{tokenKind, aLeaf, aGroup, aList, refuse, startBy, primaryStart, functionOf}
+use Rattle.classes.specs.Class.{openBracket}
 use Rattle.grammar.specs.Inner.Starts.{leafOf, joinOf, headOf, headNext, left, Begins}
 use Rattle.grammar.proofs.Laws.TokenListLaws.{tokens-next}
 use Rattle.grammar.specs.declared.Test.{Test}
@@ -79,7 +80,7 @@ module _ {s : List ℕ} {low lo most : ℕ} {g : grammar.PrimaryStart} where
 
 -- ---- the head by the token that stands there
 -- neither a bracket nor a word
-none-by : (s : List ℕ) (d : ℕ) (t : Token) (ts : List Token) → (tokenKind t ≡ openSign → ⊥) → (tokenKind t ≡ 6 → ⊥) → startBy s d t ts ≡ refuse noExpression (placeOf t)
+none-by : (s : List ℕ) (d : ℕ) (t : Token) (ts : List Token) → (tokenKind t ≡ openBracket → ⊥) → (tokenKind t ≡ 6 → ⊥) → startBy s d t ts ≡ refuse noExpression (placeOf t)
 unfolding placeOf
 none-by s d (End p) ts o w = refl
 none-by s d (Open p n) ts o w = absurd (o refl)
@@ -90,14 +91,14 @@ none-by s d (Or p n) ts o w = refl
 none-by s d (Word p a b q n) ts o w = absurd (w refl)
 none-by s d (Fault f) ts o w = refl
 
-none-onward : (s : List ℕ) (d : ℕ) (t : Token) (n : Next) (more : ℕ → List Token) → (tokenKind t ≡ openSign → ⊥) → (tokenKind t ≡ 6 → ⊥) →
+none-onward : (s : List ℕ) (d : ℕ) (t : Token) (n : Next) (more : ℕ → List Token) → (tokenKind t ≡ openBracket → ⊥) → (tokenKind t ≡ 6 → ⊥) →
     primaryStart s d (onward t n more) ≡ refuse noExpression (placeOf t)
 unfolding primaryStart
 none-onward s d t Off more o w = none-by s d t [] o w
 none-onward s d t (To n) more o w = none-by s d t (more n) o w
 
 module _ (s : List ℕ) (d at : ℕ) {t : Token} (e : tokenAt s at ≡ t) where
-  pub head-none : (tokenKind t ≡ openSign → ⊥) → (tokenKind t ≡ 6 → ⊥) → primaryStart s d (tokensFrom s at) ≡ refuse noExpression (placeOf t)
+  pub head-none : (tokenKind t ≡ openBracket → ⊥) → (tokenKind t ≡ 6 → ⊥) → primaryStart s d (tokensFrom s at) ≡ refuse noExpression (placeOf t)
   head-none o w = ap (primaryStart s d) (tokens-are s at e) ∙ none-onward s d t (nextOf t) (tokensFrom s) o w
 
   pub head-next : {n : ℕ} → nextOf t ≡ To n → primaryStart s d (tokensFrom s at) ≡ startBy s d t (tokensFrom s n)

@@ -12,7 +12,7 @@ use lib.ListN.{length, drop, length-append, length-take, length-drop}
 use Rattle.slices.specs.Text.{bytes, part, allAscii}
 use Rattle.ascii.specs.Letters.{equalIgnoringCase}
 use Rattle.refusals.specs.declared.Refusal.{Refusal}
-use Rattle.refusals.specs.Refusals.{refusal, tooDeep}
+use Rattle.refusals.specs.Refusals.{refusal, bracketExpected, missingArgument, tooDeep}
 use Rattle.tokens.specs.declared.Token.{Token}
 use Rattle.tokens.specs.declared.Token.the-variants.{End, Open, Close, Comma, And, Or, Word, Fault}
 use Rattle.decimal.specs.declared.Parsed.{Parsed}
@@ -20,10 +20,11 @@ use Rattle.decimal.specs.declared.Parsed.the-variants.{Value, Invalid}
 use Rattle.decimal.specs.Count.{countOf}
 use Rattle.durations.specs.Duration.{durationOf}
 use Rattle.rules.specs.Rule.{named, readable, Join, atLeast, all, any, Rule, leaf, node, Rules, nil, more, size, sizes}
-use Rattle.image.specs.Encode.{leafArg, leafName, joinArg, names, namesAll, Small, SmallAll}
+use Rattle.image.specs.Encode.{leafArg, leafName, joinKind, joinArg, names, namesAll, Small, SmallAll}
 use Rattle.grammar.specs.declared.Function.{Function}
 use Rattle.grammar.specs.declared.Function.the-variants.{OlderThan, Readable, Any, All, AtLeast, Unknown}
-use Rattle.grammar.specs.Grammar.{tokenKind, openSign, closeSign, commaSign, andSign, orSign, Rest, rest, missing, restIf, after, firstPlace, PrimaryStart, aLeaf, aGroup, aList, refused, refuse, closed, expectedWord, requireWord, valued, olderThanStart, readableStart, afterComma, atLeastStart, functionOf, callStart, unquotedLeaf, opened, unquotedStart, primaryStart, chain, leftRules, sameJoin, ParseResult, got, bad, onto, onRest, closeAfter, byStart, orIn, orMore, andIn, andMore, primaryIn, listMore}
+use Rattle.grammar.specs.Grammar.{tokenKind, Rest, rest, missing, restIf, after, firstPlace, PrimaryStart, aLeaf, aGroup, aList, refused, refuse, expecting, expectedWord, requireWord, valued, olderThanStart, readableStart, atLeastStart, functionOf, callStart, unquotedLeaf, opened, unquotedStart, primaryStart, chain, leftRules, ParseResult, got, bad, onto, onRest, closeAfter, byStart, orIn, orMore, andIn, andMore, primaryIn, listMore}
+use Rattle.classes.specs.Class.{openBracket, closeBracket, comma, ampersand, bar}
 use Rattle.slices.proofs.Laws.AsciiLaws.{append-ascii}
 use Rattle.grammar.proofs.Laws.AsciiLaws.{part-ascii}
 use Rattle.grammar.proofs.Laws.SmallLaws.{count-small, duration-small}
@@ -104,8 +105,8 @@ unfolding part
 part-short s a b = omega (arith, length-take (b - a) (drop a s), length-drop a s)
 
 module _ (s : List ℕ) (ts : List Token) where
-  closed-begun : (us : List Token) (p : ℕ) (then : List Token → PrimaryStart) → ((vs : List Token) → Taken us vs 1 0 → Begun s ts (then vs)) → Begun s ts (closed (after closeSign us) p then)
-  closed-begun us p then f = by-after (λ r. Begun s ts (closed r p then)) closeSign us (omega arith) (omega arith) f
+  closed-begun : (us : List Token) (p : ℕ) (then : List Token → PrimaryStart) → ((vs : List Token) → Taken us vs 1 0 → Begun s ts (then vs)) → Begun s ts (expecting bracketExpected (after closeBracket us) p then)
+  closed-begun us p then f = by-after (λ r. Begun s ts (expecting bracketExpected r p then)) closeBracket us (omega arith) (omega arith) f
 
   valued-begun : (x : Parsed) (number p : ℕ) (then : ℕ → PrimaryStart) → Numbered (refusal number p) → ((n : ℕ) → x ≡ Value n → Begun s ts (then n)) → Begun s ts (valued x number p then)
   valued-begun (Value n) number p then l f = f n refl
@@ -153,7 +154,7 @@ module _ (s : List ℕ) (ts : List Token) where
     unfolding atLeastStart
     at-least-begun place =
         due-begun us _ (λ p w vs i. valued-begun (countOf w) _ _ _ (omega arith) (λ n e.
-        by-after (λ r. Begun s ts (afterComma r (firstPlace vs) (aList (atLeast n) place))) commaSign vs (omega arith) (omega arith) (λ xs j. (omega arith, count-small w e))))
+        by-after (λ r. Begun s ts (expecting missingArgument r (firstPlace vs) (aList (atLeast n) place))) comma vs (omega arith) (omega arith) (λ xs j. (omega arith, count-small w e))))
 
     call-begun : (place : ℕ) (f : Function) → Begun s ts (callStart s place f us)
     call-begun place OlderThan = older-begun
@@ -188,7 +189,7 @@ head-begun s d (Or p n ∷ us) = omega arith
 head-begun s d (Word p a b true n ∷ us) = name-made s (Word p a b true n ∷ us) us a b (omega arith)
 head-begun s d (Word p a b false n ∷ us) =
     let ts = Word p a b false n ∷ us in
-    by-after (λ r. Begun s ts (unquotedStart s d p (part s a b) us r)) openSign us (omega arith)
+    by-after (λ r. Begun s ts (unquotedStart s d p (part s a b) us r)) openBracket us (omega arith)
     (bare-made s ts us a b (omega arith))
     (λ vs t. opened-begun s ts d _ _ (call-begun s ts vs (omega arith) p (functionOf (part s a b))))
 head-begun s d (Fault f ∷ us) = omega arith
@@ -232,7 +233,7 @@ module _ {s : List ℕ} where
   left-made : (j : Join) {ts us : List Token} (l : Rule) → MadeRule s ts l us → MadeRules s ts (leftRules j l) us
   unfolding leftRules size names Small
   left-made j {ts} {us} (leaf l) m = alone (leaf l) m
-  left-made j {ts} {us} (node i rs r) m = go (sameJoin i j)
+  left-made j {ts} {us} (node i rs r) m = go (eqb (joinKind i) (joinKind j))
     where
       go : (v : Bool) → MadeRules s ts (cond v (more rs r) (more nil (node i rs r))) us
       go true = record { taken = omega arith; ascii = m .ascii; small = λ h. m .small h .1 }
@@ -275,14 +276,14 @@ module _ (s : List ℕ) where
 
   -- a bracket that closes
   holds-closed : (ts us : List Token) (g : ParseResult) → Taken ts us 1 0 → Holds (MadeRule s us) g → Holds (MadeRule s ts) (closeAfter g)
-  holds-closed ts us (got r vs) t m = on-rest (Holds (MadeRule s ts)) closeSign vs (λ xs. got r xs) _ (omega arith) (λ xs u. behind t (before (omega arith) m u)) tt
+  holds-closed ts us (got r vs) t m = on-rest (Holds (MadeRule s ts)) closeBracket vs (λ xs. got r xs) _ (omega arith) (λ xs u. behind t (before (omega arith) m u)) tt
   holds-closed ts us (bad f) t m = tt
 
   holds-head : (ts : List Token) (h : PrimaryStart) (inner : List Token → ParseResult) (list : Join → List Token → ParseResult) → Begun s ts h → ((us : List Token) → Holds (MadeRule s us) (inner us)) → ((j : Join) (us : List Token) → joinArg j < 2 ^ 64 → Holds (MadeRule s us) (list j us)) → Holds (MadeRule s ts) (byStart h inner list)
   unfolding size names Small
   holds-head ts (aLeaf l us) inner list b i e = b
   holds-head ts (aGroup us) inner list b i e = holds-closed ts us (inner us) b (i us)
-  holds-head ts (aList j p us) inner list b i e = on-rest (Holds (MadeRule s ts)) closeSign us _ (list j us) (omega arith) (λ vs t. tt) (holds-behind ts us (list j us) (b .0) (e j us (b .1)))
+  holds-head ts (aList j p us) inner list b i e = on-rest (Holds (MadeRule s ts)) closeBracket us _ (list j us) (omega arith) (λ vs t. tt) (holds-behind ts us (list j us) (b .0) (e j us (b .1)))
   holds-head ts (refused f) inner list b i e = tt
 
   mutual
@@ -295,7 +296,7 @@ module _ (s : List ℕ) where
     or-more : (f d : ℕ) (ts : List Token) (g : ParseResult) → Holds (MadeRule s ts) g → Holds (MadeRule s ts) (orMore f s d g)
     or-more zero d ts g m = tt
     or-more (suc f) d ts (bad r) m = tt
-    or-more (suc f) d ts (got l us) m = holds-turn orSign any (andIn f s d) (orMore f s d) (omega arith) (omega arith) (λ vs. and-made f d vs) (λ xs g. or-more f d xs g) ts us l m
+    or-more (suc f) d ts (got l us) m = holds-turn bar any (andIn f s d) (orMore f s d) (omega arith) (omega arith) (λ vs. and-made f d vs) (λ xs g. or-more f d xs g) ts us l m
 
     pub and-made : (f d : ℕ) (ts : List Token) → Holds (MadeRule s ts) (andIn f s d ts)
     and-made zero d ts = tt
@@ -304,7 +305,7 @@ module _ (s : List ℕ) where
     and-more : (f d : ℕ) (ts : List Token) (g : ParseResult) → Holds (MadeRule s ts) g → Holds (MadeRule s ts) (andMore f s d g)
     and-more zero d ts g m = tt
     and-more (suc f) d ts (bad r) m = tt
-    and-more (suc f) d ts (got l us) m = holds-turn andSign all (primaryIn f s d) (andMore f s d) (omega arith) (omega arith) (λ vs. primary-made f d vs) (λ xs g. and-more f d xs g) ts us l m
+    and-more (suc f) d ts (got l us) m = holds-turn ampersand all (primaryIn f s d) (andMore f s d) (omega arith) (omega arith) (λ vs. primary-made f d vs) (λ xs g. and-more f d xs g) ts us l m
 
     pub primary-made : (f d : ℕ) (ts : List Token) → Holds (MadeRule s ts) (primaryIn f s d ts)
     primary-made zero d ts = tt
@@ -316,6 +317,6 @@ module _ (s : List ℕ) where
     list-more zero d j ts rs g l m = tt
     list-more (suc f) d j ts rs (bad r) l m = tt
     list-more (suc f) d j ts rs (got r us) l m =
-        on-rest (Holds (MadeRule s ts)) commaSign us _ _ (omega arith)
+        on-rest (Holds (MadeRule s ts)) comma us _ _ (omega arith)
         (λ vs t. list-more f d j ts (more rs r) (orIn f s (d + 1) vs) l (holds-next ts us vs (more rs r) (orIn f s (d + 1) vs) m t (or-made f (d + 1) vs)))
-        (on-rest (Holds (MadeRule s ts)) closeSign us _ _ (omega arith) (λ vs t. node-made j rs r l (before (omega arith) m t)) tt)
+        (on-rest (Holds (MadeRule s ts)) closeBracket us _ _ (omega arith) (λ vs t. node-made j rs r l (before (omega arith) m t)) tt)

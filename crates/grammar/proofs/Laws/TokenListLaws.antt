@@ -13,7 +13,8 @@ use Rattle.tokens.specs.declared.Next.the-variants.{Off, To}
 use Rattle.tokens.specs.Token.{placeOf, nextOf, tokenAt, onward, tokensFrom}
 use Rattle.tokens.specs.Inner.Bounds.{Lexed}
 use Rattle.tokens.proofs.Laws.TokenLaws.{tokens-are, goes-on, left-on, lexed}
-use Rattle.grammar.specs.Grammar.{tokenKind, rest, missing, after, firstPlace, expected, otherToken, expectedBy, expectedWord, commaSign, closeSign}
+use Rattle.grammar.specs.Grammar.{tokenKind, rest, missing, after, firstPlace, expected, otherToken, expectedBy, expectedWord}
+use Rattle.classes.specs.Class.{comma, closeBracket}
 use Rattle.grammar.specs.Inner.Starts.{left}
 
 -- the rest of the tokens, where the text goes on after the first
@@ -84,10 +85,10 @@ module _ (s : List ℕ) (at : ℕ) where
   pub signed : {t : Token} {n : ℕ} → tokenAt s at ≡ t → nextOf t ≡ To n → Signed s at (tokenKind t) n
   signed {t} e h = record { sign = after-on s at e h (tokenKind t) refl; bounds = steps s at e h }
 
-  pub comma-signed : {p n : ℕ} → tokenAt s at ≡ Comma p n → Signed s at commaSign n
+  pub comma-signed : {p n : ℕ} → tokenAt s at ≡ Comma p n → Signed s at comma n
   unfolding nextOf
   comma-signed e = signed e refl
 
-  pub close-signed : {p n : ℕ} → tokenAt s at ≡ Close p n → Signed s at closeSign n
+  pub close-signed : {p n : ℕ} → tokenAt s at ≡ Close p n → Signed s at closeBracket n
   unfolding nextOf
   close-signed e = signed e refl

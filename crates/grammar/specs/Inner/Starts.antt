@@ -6,6 +6,7 @@ use lib.ListN.{length}
 use Rattle.slices.specs.Text.{part}
 use Rattle.tokens.specs.declared.Next.{Next}
 use Rattle.tokens.specs.declared.Next.the-variants.{Off, To}
+use Rattle.tokens.specs.declared.Token.{Token}
 use Rattle.tokens.specs.Token.{tokensFrom}
 use Rattle.rules.specs.Rule.{Leaf, named, olderThan, readable, Join, atLeast, all, any}
 use Rattle.grammar.specs.Grammar as grammar
@@ -51,3 +52,7 @@ pub record Begins (s : List ℕ) (low lo most : ℕ) (h : PrimaryStart) (g : gra
   pub says : headOf s h ≡ g
   pub on : (n : ℕ) → headNext h ≡ To n → (lo ≤ n) × (n ≤ length s) × (left s n ≤ most)
   pub name : (a b n : ℕ) → h ≡ Name a b n → (low ≤ a) × (a ≤ b) × (b ≤ n)
+
+-- in a call, whose arguments are read from a position on by one of the grammar's functions
+abbrev pub BeginsAt : List ℕ → ℕ → PrimaryStart → (List Token → grammar.PrimaryStart) → Type 0
+BeginsAt s at h start = Begins s at at (left s at) h (start (tokensFrom s at))

@@ -11,7 +11,8 @@ use borrow.Author.Tests.{lt-leb, eq-eqb, ne-eqb}
 use Rattle.rules.specs.Rule.{Leaf, named, olderThan, readable, Join, atLeast, all, any, Rule, leaf, Rules, nil, more, size, sizes}
 use Rattle.image.specs.Kinds.{readableKind, atLeastKind, anyKind}
 use Rattle.image.specs.Layout.{nameOf}
-use Rattle.image.specs.Decode.{when, bind, isSome, Node, nodeAt, Meaning, aLeaf, aJoin, nothing, argument0, meaning, Cell, cellAt, split, close, place, build, only}
+use Rattle.image.specs.Decode.{when, bind, Node, nodeAt, Meaning, aLeaf, aJoin, nothing, argument0, meaning, Cell, cellAt, split, close, place, build, only}
+use Rattle.image.specs.Inner.Valid.{isSome}
 use Rattle.image.specs.Inner.Leaves.{isLeaf}
 use Rattle.image.specs.Inner.Standing.{EncodedAt, EncodedAllAt}
 use Rattle.image.proofs.Laws.StandingLaws.{root-size, Built, built}

@@ -10,7 +10,8 @@ use Rattle.rules.specs.Rule.{Rule, size}
 use Rattle.slices.specs.Text.{AllBytes}
 use Rattle.little_endian.specs.Bytes.{leBytes, packed}
 use Rattle.image.specs.Encode.{names, tags, args, imageOf, encode, Fits}
-use Rattle.image.specs.Decode.{isSome, decode}
+use Rattle.image.specs.Decode.{decode}
+use Rattle.image.specs.Inner.Valid.{isSome}
 use Rattle.little_endian.proofs.Laws.BytesLaws.{bytes-append, bytes-number, bytes-packed}
 use Rattle.slices.proofs.Laws.AsciiLaws.{bytes-ascii}
 use Rattle.image.proofs.Laws.FitLaws.{isSome-true}

@@ -12,7 +12,8 @@ use Rattle.rules.specs.Rule.{Rule, size}
 use Rattle.slices.specs.Text.{allAscii}
 use Rattle.image.specs.Kinds.{namedKind}
 use Rattle.image.specs.Layout.{nodeCountIn, nameByteCountIn, namesStart}
-use Rattle.image.specs.Decode.{isSome, Node, nodeAt, cellAt, build, only, nameEnd, endsAt, decodeParts, decode}
+use Rattle.image.specs.Decode.{Node, nodeAt, cellAt, build, only, nameEnd, endsAt, decodeParts, decode}
+use Rattle.image.specs.Inner.Valid.{isSome}
 use Rattle.image.specs.Decode.{sized as lengths}
 use Rattle.image.proofs.Laws.BuildLaws.{when-some, bind-some}
 use Rattle.image.proofs.Laws.FitLaws.{isSome-true}

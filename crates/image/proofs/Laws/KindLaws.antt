@@ -4,9 +4,9 @@ use mathlib.Core.Bool.{true, false, true≢false}
 use mathlib.Core.List.{List}
 use Prim.Native.Nat.{ℕ, zero, suc, _≤_, _<_}
 use native.Mathlib.Omega.{arith}
-use borrow.Author.Tests.{leb-true, leb-false, lt-leb}
+use borrow.Author.Tests.{leb-true, leb-false}
 use Rattle.rules.specs.Rule.{Leaf, named, olderThan, readable, Join, atLeast, all, any}
-use Rattle.image.specs.Kinds.{namedKind, readableKind, atLeastKind, anyKind}
+use Rattle.image.specs.Kinds.{namedKind, olderThanKind, readableKind, atLeastKind, anyKind}
 use Rattle.image.specs.Encode.{leafKind, joinKind, joinArg}
 use Rattle.image.specs.Decode.{Meaning, aLeaf, aJoin, nothing, meaning}
 use Rattle.image.specs.Inner.Leaves.{isLeaf}
@@ -20,9 +20,17 @@ pub leaf-high : (k : ℕ) → isLeaf k ≡ false → readableKind < k
 unfolding isLeaf
 leaf-high k e = leb-false k readableKind e
 
-pub above-leaf : (k : ℕ) → readableKind < k → isLeaf k ≡ false
+-- a kind that is none of the leaves' is no leaf's
+pub other-kind : (k : ℕ) → (k ≡ namedKind → ⊥) → (k ≡ olderThanKind → ⊥) → (k ≡ readableKind → ⊥) → isLeaf k ≡ false
 unfolding isLeaf
-above-leaf k h = lt-leb k readableKind h
+other-kind zero h i j = absurd (h refl)
+other-kind (suc zero) h i j = absurd (i refl)
+other-kind (suc (suc zero)) h i j = absurd (j refl)
+other-kind (suc (suc (suc k))) h i j = refl
+
+-- nor is a combinator's
+pub join-kind-no-leaf : (k : ℕ) → atLeastKind ≤ k → k ≤ anyKind → isLeaf k ≡ false
+join-kind-no-leaf k lo hi = other-kind k (λ e. omega arith) (λ e. omega arith) (λ e. omega arith)
 
 leaf-is : (l : Leaf) → isLeaf (leafKind l) ≡ true
 unfolding isLeaf

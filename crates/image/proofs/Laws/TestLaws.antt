@@ -11,7 +11,8 @@ use borrow.Author.Tests.{leb-true, le-leb, eqb-true, eq-eqb}
 use Rattle.rules.specs.Rule.{Rule, Rules, nil, more}
 use Rattle.slices.specs.Text.{allAscii}
 use Rattle.image.specs.Layout.{nodeCountIn, nameByteCountIn, namesStart}
-use Rattle.image.specs.Decode.{bind, isSome, nodeAt, cellAt, build, only, nameEnd, endsAt, sized, decodeParts, decode}
+use Rattle.image.specs.Decode.{bind, nodeAt, cellAt, build, only, nameEnd, endsAt, sized, decodeParts, decode}
+use Rattle.image.specs.Inner.Valid.{isSome}
 
 both-true : (a b : Bool) → (a && b) ≡ true → (a ≡ true) × (b ≡ true)
 both-true true b e = (refl, e)

@@ -4,7 +4,7 @@ use Prim.Native.Nat.{_-_, _≤_}
 use native.Mathlib.Omega.{arith}
 use borrow.Author.Needs.{needs}
 use lib.ListN.{length, take}
-use Rattle.slices.specs.Written.{written}
+use Rattle.slices.specs.Text.{written}
 use Rattle.little_endian.specs.Bytes.{packed}
 use Rattle.slices.proofs.Laws.WrittenLaws.{written-none}
 use Rattle.little_endian.proofs.Laws.NumberWrittenLaws.{packed-on}

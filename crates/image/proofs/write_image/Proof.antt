@@ -6,7 +6,7 @@ use native.Mathlib.Omega.{arith}
 use borrow.Author.Needs.{needs}
 use lib.ListN.{length, length-append}
 use lib.Seq.{length-take-le}
-use Rattle.slices.specs.Written.{written}
+use Rattle.slices.specs.Text.{written}
 use Rattle.little_endian.specs.Bytes.{leBytes, packed}
 use Rattle.image.specs.Encode.{imageOf}
 use Rattle.little_endian.proofs.Laws.BytesLaws.{length-packed}

@@ -1,11 +1,11 @@
 -- A rule in a row of nodes: what a function that walks a part of an image asks. Assumes nothing.
-use Prim.Native.Nat.{ℕ, _+_, _/_, _%_, _≤_, _<_}
+use Prim.Native.Nat.{ℕ, _+_, _≤_, _<_}
 use mathlib.Core.Path.{_≡_}
 use mathlib.Core.List.{List}
 use lib.ListN.{length}
 use Rattle.rules.specs.Rule.{Rule, size}
 use Rattle.image.specs.Kinds.{namedKind}
-use Rattle.image.specs.Layout.{namesStart}
+use Rattle.image.specs.Layout.{namesStart, nameStart, nameLength}
 use Rattle.image.specs.Decode.{Cell, cellAt, nodeAt}
 use Rattle.image.specs.Inner.Standing.{EncodedAt}
 
@@ -17,7 +17,7 @@ pub record Subtree (f : ℕ → Cell) (from k : ℕ) : Type 0 where
 
 -- the name that an argument tells of lies inside an image of n nodes
 abbrev pub NameInside : List ℕ → ℕ → ℕ → Type 0
-NameInside s n arg = namesStart n + arg / 65536 + arg % 65536 ≤ length s
+NameInside s n arg = namesStart n + nameStart arg + nameLength arg ≤ length s
 
 -- so do the names of all n nodes
 unfoldable pub NamesInside : List ℕ → ℕ → Type 0

@@ -1,13 +1,19 @@
 -- What the test of an image asks and promises. Assumes nothing.
 use Prim.Native.Nat.{ℕ, _≤_}
 use mathlib.Core.Path.{_≡_}
-use mathlib.Core.Bool.{true}
+use mathlib.Core.Bool.{Bool, true, false}
 use mathlib.Core.List.{List}
+use mathlib.Core.Option.{Option, none, some}
 use lib.ListN.{length}
 use Rattle.image.specs.Layout.{namesStart}
 use Rattle.image.specs.Decode as decoding
-use Rattle.image.specs.Decode.{isSome, build, cellAt}
+use Rattle.image.specs.Decode.{build, cellAt}
 use Rattle.image.specs.declared.Node.{Node}
+
+-- whether there is a value
+abbrev pub isSome {ℓ} : {A : Type ℓ} → Option A → Bool
+isSome none = false
+isSome (some a) = true
 
 -- the program's form of a node
 abbrev pub nodeOf : Node → decoding.Node

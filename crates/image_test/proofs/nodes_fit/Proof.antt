@@ -6,7 +6,8 @@ use Prim.Native.Nat.{_-_, _≤_}
 use native.Mathlib.Numerals.{add-one}
 use native.Mathlib.Omega.{arith}
 use borrow.Author.Tests.{not-true, not-false}
-use Rattle.image.specs.Decode.{isSome, cellAt, build}
+use Rattle.image.specs.Decode.{cellAt, build}
+use Rattle.image.specs.Inner.Valid.{isSome}
 use Rattle.image.proofs.Laws.FitLaws.{cell-size, fits-stop, fits-root}
 use Rattle.image_test.proofs.nodes_fit.Statement.{statement}
 use Rattle.image_test.proofs.nodes_fit.Tie as tie

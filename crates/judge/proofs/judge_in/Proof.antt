@@ -5,7 +5,8 @@ use Prim.Native.Nat.{_≤_}
 use native.Mathlib.Omega.{arith}
 use lib.ListN.{length, take}
 use lib.Seq.{length-take-le}
-use Rattle.image.specs.Decode.{isSome, decode}
+use Rattle.image.specs.Decode.{decode}
+use Rattle.image.specs.Inner.Valid.{isSome}
 use Rattle.image.proofs.Laws.InsideLaws.{image-inside, image-few}
 use Rattle.verdict.proofs.Laws.GuaranteeLaws.{judges}
 use Rattle.verdict.proofs.Laws.CheckLaws.{written-image, checks-image}

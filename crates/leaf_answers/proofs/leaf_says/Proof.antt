@@ -2,7 +2,7 @@
 use native.Mathlib.Omega.{arith}
 use borrow.Author.Needs.{needs}
 use Rattle.leaf_answers.specs.Inner.Known.{envIn}
-use Rattle.image.proofs.Laws.KindLaws.{above-leaf, no-leaf}
+use Rattle.image.proofs.Laws.KindLaws.{other-kind, no-leaf}
 use Rattle.evaluate.proofs.Laws.MeaningLaws.{says-named, says-older, says-readable}
 use Rattle.leaf_answers.proofs.leaf_says.Statement.{statement}
 use Rattle.leaf_answers.proofs.leaf_says.Tie as tie
@@ -25,7 +25,7 @@ returns-3 : tie.Need-returns-3
 returns-3 c = λ l e. says-readable _ _ _ _ l e (c .before .match .keys3)
 
 returns-4 : tie.Need-returns-4
-returns-4 c = λ l e. absurd (no-leaf _ _ _ _ (above-leaf _ (omega arith)) l e)
+returns-4 c = λ l e. absurd (no-leaf _ _ _ _ (other-kind _ (λ q. omega arith) (λ q. omega arith) (λ q. omega arith)) l e)
 
 pub leaf-says-spec : {M : Type 1} → statement M
 leaf-says-spec =

@@ -6,7 +6,8 @@ use lib.Dec.{leb}
 use lib.ListN.{getD}
 use Rattle.rules.specs.Rule.{Leaf}
 use Rattle.image.specs.Decode.{aLeaf, cellAt}
-use Rattle.store_table.specs.Stores.{TableInBounds, countIn, entriesIn, allNames}
+use Rattle.store_table.specs.Stores.{countIn, entriesIn, allNames}
+use Rattle.store_table.specs.Inner.Bounds.{TableInBounds}
 use Rattle.store_table.specs.Inner.Index.{Indexed, Marked}
 use Rattle.evaluate.specs.Evict.{Env, leafSays}
 use Rattle.leaf_answers.specs.declared.EnvNumbers.{EnvNumbers}

@@ -5,7 +5,7 @@ use native.Mathlib.Omega.{arith}
 use borrow.Author.Needs.{needs}
 use lib.ListN.{length, take, replicate, length-replicate, getD-replicate}
 use lib.Seq.{take-all}
-use Rattle.slices.specs.Written.{written}
+use Rattle.slices.specs.Text.{written}
 use Rattle.slices.proofs.Laws.WrittenLaws.{written-none, copied-on}
 use Rattle.lines.proofs.append_blanks.Statement.{statement}
 use Rattle.lines.proofs.append_blanks.Tie as tie

@@ -5,7 +5,7 @@ use Prim.Native.Nat.{ℕ, _+_, _*_, _/_, _^_, _≤_, _<_}
 use native.Mathlib.Numerals.{add-one}
 use lib.ListN.{length, getD, take}
 use lib.Seq.{take-suc}
-use Rattle.slices.specs.Written.{written}
+use Rattle.slices.specs.Text.{written}
 use Rattle.slices.proofs.Laws.WrittenLaws.{written-then, front-length}
 use Rattle.little_endian.specs.Bytes.{leBytes, packed}
 use Rattle.little_endian.proofs.Laws.BytesLaws.{length-leBytes, length-packed}

@@ -11,6 +11,7 @@ use lib.ListN.{length, getD, length-append}
 use Rattle.rules.specs.Rule.{named, olderThan, readable, Join, atLeast, all, any, Rule, leaf, node, Rules, nil, more, size, sizes}
 use Rattle.image.specs.Encode.{leafKind, joinKind, tag, joinArg, tags, tagsAll, args, argsAll, names, namesAll}
 use Rattle.image.proofs.Laws.EncodeLaws.{leaf-kind, join-kind, length-tags, length-tagsAll}
+use Rattle.image.specs.Layout.{tagKind}
 use Rattle.grammar.specs.Grammar.{leftRules, chain}
 use Rattle.nodes.specs.Inner.Parses.{Arrays, Holds, Joined, keepIf}
 use Rattle.nodes.proofs.Laws.ArrayLaws.{unsnoc, last-is, holds-as, holds-join, holds-push}
@@ -33,10 +34,10 @@ unfolding tags
 tags-root (leaf l) = refl
 tags-root (node j rs r) = refl
 
-tag-kind : (k s : ℕ) → k < 256 → tag k s % 256 ≡ k
+tag-kind : (k s : ℕ) → k < 256 → tagKind (tag k s) ≡ k
 tag-kind k s h = omega arith
 
-root-kind : (r : Rule) → rootTag r % 256 ≡ rootKind r
+root-kind : (r : Rule) → tagKind (rootTag r) ≡ rootKind r
 root-kind (leaf l) = tag-kind (leafKind l) 1 (leaf-kind l)
 root-kind (node j rs r) = tag-kind (joinKind j) (suc (sizes rs + size r)) (join-kind j)
 
@@ -71,10 +72,10 @@ HoldsAll b a n m n₁ m₁ rs = Holds b a n m n₁ m₁ (tagsAll rs) (argsAll rs
 
 -- the test that the program makes on the last tag, and what is left of the arrays after it
 module _ {b a : Arrays} {n m n₁ m₁ : ℕ} (lt : n ≤ length (b .tags)) (la : n ≤ length (b .args)) where
-  last-kind : (l : Rule) → Holds b a n m n₁ m₁ (tags l) (args l m) (names l) → getD (a .tags) (n₁ - 1) 0 % 256 ≡ rootKind l
+  last-kind : (l : Rule) → Holds b a n m n₁ m₁ (tags l) (args l m) (names l) → tagKind (getD (a .tags) (n₁ - 1) 0) ≡ rootKind l
   last-kind l h =
       let h₂ = holds-as h (tags-root l) refl refl in
-      ap (λ (x : ℕ). x % 256) (last-is (a .tags) (b .tags) (bodyTags l) n n₁ (rootTag l) (h₂ .tags) (h₂ .more-tags) lt) ∙ root-kind l
+      ap tagKind (last-is (a .tags) (b .tags) (bodyTags l) n n₁ (rootTag l) (h₂ .tags) (h₂ .more-tags) lt) ∙ root-kind l
 
   popped : (j : Join) (rs : Rules) (r : Rule) → Holds b a n m n₁ m₁ (tags (node j rs r)) (args (node j rs r) m) (names (node j rs r)) → HoldsAll b a n m (n₁ - 1) m₁ (more rs r)
   unfolding tags args names
@@ -87,21 +88,21 @@ module _ {b a : Arrays} {n m n₁ m₁ : ℕ} (lt : n ≤ length (b .tags)) (la 
     more-names = h .more-names;
   }
 
-  kept-as : {j : Join} {l : Rule} → Left j l → Holds b a n m n₁ m₁ (tags l) (args l m) (names l) → {k : ℕ} → k ≡ keepIf (eqb (getD (a .tags) (n₁ - 1) 0 % 256) (joinKind j)) n₁ → HoldsAll b a n m k m₁ (leftRules j l)
+  kept-as : {j : Join} {l : Rule} → Left j l → Holds b a n m n₁ m₁ (tags l) (args l m) (names l) → {k : ℕ} → k ≡ keepIf (eqb (tagKind (getD (a .tags) (n₁ - 1) 0)) (joinKind j)) n₁ → HoldsAll b a n m k m₁ (leftRules j l)
   unfolding tags args names
   kept-as {j} (own rs r e) h {k} q =
-      let same : eqb (getD (a .tags) (n₁ - 1) 0 % 256) (joinKind j) ≡ true = eq-eqb _ _ (last-kind (node j rs r) h) in
+      let same : eqb (tagKind (getD (a .tags) (n₁ - 1) 0)) (joinKind j) ≡ true = eq-eqb _ _ (last-kind (node j rs r) h) in
       let less : n₁ - 1 ≡ k = sym (q ∙ ap (λ (x : Bool). keepIf x n₁) same) in
       rw (e, ← less) (popped j rs r h)
   kept-as {j} (alone l f e) h {k} q =
-      let other : eqb (getD (a .tags) (n₁ - 1) 0 % 256) (joinKind j) ≡ false = ap (λ (x : ℕ). eqb x (joinKind j)) (last-kind l h) ∙ f in
+      let other : eqb (tagKind (getD (a .tags) (n₁ - 1) 0)) (joinKind j) ≡ false = ap (λ (x : ℕ). eqb x (joinKind j)) (last-kind l h) ∙ f in
       let stays : n₁ ≡ k = sym (q ∙ ap (λ (x : Bool). keepIf x n₁) other) in
       rw (e, ← stays) (holds-as h refl (ap (args l) (sym (add-zero m))) refl)
 
 -- a turn of a chain: the right side's nodes, and then the chain's own
 pub chained : {j : Join} → Chains j → (l r : Rule) {b a c e : Arrays} {n m n₁ m₁ k n₂ m₂ : ℕ}
     → Holds b a n m n₁ m₁ (tags l) (args l m) (names l) → n ≤ length (b .tags) → n ≤ length (b .args)
-    → k ≡ keepIf (eqb (getD (a .tags) (n₁ - 1) 0 % 256) (joinKind j)) n₁
+    → k ≡ keepIf (eqb (tagKind (getD (a .tags) (n₁ - 1) 0)) (joinKind j)) n₁
     → Holds a c k m₁ n₂ m₂ (tags r) (args r m₁) (names r)
     → n₂ < length (c .tags) → n₂ < length (c .args)
     → Joined j n n₂ (c .tags) (c .args) (e .tags) (e .args) → e .names ≡ c .names

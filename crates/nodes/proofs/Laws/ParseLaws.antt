@@ -13,7 +13,9 @@ use Rattle.tokens.specs.Token.{tokensFrom}
 use Rattle.rules.specs.Rule.{Leaf, Join, all, any, Rule, leaf, node, Rules, nil, more, size, sizes}
 use Rattle.image.specs.Encode.{joinKind, tag, joinArg, leafName, tags, tagsAll, args, argsAll, names, namesAll}
 use Rattle.image.proofs.Laws.EncodeLaws.{length-tags, length-tagsAll}
-use Rattle.grammar.specs.Grammar.{Rest, rest, missing, after, andSign, orSign, commaSign, closeSign, firstPlace, aLeaf, aGroup, aList, refused, primaryStart, chain, ParseResult, got, bad, onto, onRest, closeAfter, orIn, orMore, andIn, andMore, primaryIn, listMore}
+use Rattle.image.specs.Layout.{tagKind}
+use Rattle.grammar.specs.Grammar.{Rest, rest, missing, after, firstPlace, aLeaf, aGroup, aList, refused, primaryStart, chain, ParseResult, got, bad, onto, onRest, closeAfter, orIn, orMore, andIn, andMore, primaryIn, listMore}
+use Rattle.classes.specs.Class.{ampersand, bar, comma, closeBracket}
 use Rattle.grammar.specs.Inner.Starts.{left}
 use Rattle.nodes.specs.Inner.Parses.{Arrays, Long, Holds, Read, Parsed, Written, Joined, keepIf}
 use Rattle.nodes.proofs.Laws.ArrayLaws.{holds-as, holds-join, holds-push, holds-none, front, rebased}
@@ -137,7 +139,7 @@ module _ {s : List ℕ} {G : ℕ → ParseResult} {More : ℕ → ParseResult �
 
     -- the operand after it was read
     pub turn : {need need₂ n m cap : ℕ} {b a a₂ a₃ : Arrays} {n₁ m₁ k e₂ n₂ m₂ : ℕ} → e < y → n ≤ cap → Long cap b → Sofar G More need s at n m cap b a e n₁ m₁
-        → (k ≡ keepIf (eqb (getD (a .tags) (n₁ - 1) 0 % 256) (joinKind j)) n₁) × ((k ≤ n₁) × (n₁ ≤ k + 1))
+        → (k ≡ keepIf (eqb (tagKind (getD (a .tags) (n₁ - 1) 0)) (joinKind j)) n₁) × ((k ≤ n₁) × (n₁ ≤ k + 1))
         → need₂ ≤ 3 * left s y + 2
         → Read (λ (f : ℕ). Op f y) need₂ s y k m₁ a a₂ e₂ n₂ m₂
         → Long cap a₂ → n₂ < cap → Joined j n n₂ (a₂ .tags) (a₂ .args) (a₃ .tags) (a₃ .args) → a₃ .names ≡ a₂ .names
@@ -164,7 +166,7 @@ module _ {s : List ℕ} {G : ℕ → ParseResult} {More : ℕ → ParseResult �
         says₂ (suc g) h = (g, omega (arith, r .fewer), L .turns g (l .tree) e y is ∙ ap (λ (o : ParseResult). More g (onto j (l .tree) o)) (r .says g (omega arith)))
 
 -- ---- the levels
-pub and-level : (s : List ℕ) (d at : ℕ) → Level s (λ (f : ℕ). andIn f s d (tokensFrom s at)) (λ (f : ℕ) (g : ParseResult). andMore f s d g) (λ (f e : ℕ). primaryIn f s d (tokensFrom s e)) andSign all at
+pub and-level : (s : List ℕ) (d at : ℕ) → Level s (λ (f : ℕ). andIn f s d (tokensFrom s at)) (λ (f : ℕ) (g : ParseResult). andMore f s d g) (λ (f e : ℕ). primaryIn f s d (tokensFrom s e)) ampersand all at
 unfolding andIn
 and-level s d at = record {
   chains = by-all;
@@ -174,7 +176,7 @@ and-level s d at = record {
   turns = λ f t e y q. rw q;
 }
 
-pub or-level : (s : List ℕ) (d at : ℕ) → Level s (λ (f : ℕ). orIn f s d (tokensFrom s at)) (λ (f : ℕ) (g : ParseResult). orMore f s d g) (λ (f e : ℕ). andIn f s d (tokensFrom s e)) orSign any at
+pub or-level : (s : List ℕ) (d at : ℕ) → Level s (λ (f : ℕ). orIn f s d (tokensFrom s at)) (λ (f : ℕ) (g : ParseResult). orMore f s d g) (λ (f e : ℕ). andIn f s d (tokensFrom s e)) bar any at
 unfolding orIn
 or-level s d at = record {
   chains = by-any;
@@ -227,13 +229,13 @@ module _ (s : List ℕ) (d at : ℕ) where
     inner-refused {x} inner = grouped (bad x) inner
 
     module _ {n m : ℕ} {b a : Arrays} {e n₁ m₁ : ℕ} (r : Read (λ (f : ℕ). orIn f s (d + 1) (tokensFrom s e₀)) (3 * left s e₀ + 3) s e₀ n m b a e n₁ m₁) where
-      pub unclosed : {p : ℕ} → after closeSign (tokensFrom s e) ≡ missing → firstPlace (tokensFrom s e) ≡ p → Says (bad (refusal bracketExpected p))
+      pub unclosed : {p : ℕ} → after closeBracket (tokensFrom s e) ≡ missing → firstPlace (tokensFrom s e) ≡ p → Says (bad (refusal bracketExpected p))
       unclosed not pl f le =
           grouped (got (r .tree) (tokensFrom s e)) (r .says) f le
           ∙ ap (λ (x : Rest). onRest x (λ us. got (r .tree) us) (bad (refusal bracketExpected (firstPlace (tokensFrom s e))))) not
           ∙ ap (λ (x : ℕ). bad (refusal bracketExpected x)) pl
 
-      pub closed : {y : ℕ} → after closeSign (tokensFrom s e) ≡ rest (tokensFrom s y) → (e < y) × (y ≤ length s) × (left s y < left s e) → Read (λ (f : ℕ). primaryIn f s d (tokensFrom s at)) (3 * left s at + 1) s at n m b a y n₁ m₁
+      pub closed : {y : ℕ} → after closeBracket (tokensFrom s e) ≡ rest (tokensFrom s y) → (e < y) × (y ≤ length s) × (left s y < left s e) → Read (λ (f : ℕ). primaryIn f s d (tokensFrom s at)) (3 * left s at + 1) s at n m b a y n₁ m₁
       closed shut lt = record {
         tree = r .tree;
         says = λ f le.
@@ -264,12 +266,12 @@ pub record Listing (s : List ℕ) (d at : ℕ) (j : Join) (n m cap : ℕ) (b a :
 
 module _ (s : List ℕ) (d at : ℕ) (j : Join) where
   module _ {place e : ℕ} (q : primaryStart s d (tokensFrom s at) ≡ aList j place (tokensFrom s e)) (h : (at < e) × (e ≤ length s) × (left s e < left s at)) where
-    pub list-empty : {us : List Token} → after closeSign (tokensFrom s e) ≡ rest us → Says s d at (bad (refusal emptyList place))
+    pub list-empty : {us : List Token} → after closeBracket (tokensFrom s e) ≡ rest us → Says s d at (bad (refusal emptyList place))
     unfolding primaryIn
     list-empty shut zero le = absurd (omega arith)
     list-empty shut (suc f) le = rw (q, shut)
 
-    pub list-begin : {n m cap : ℕ} {b : Arrays} → after closeSign (tokensFrom s e) ≡ missing → Long cap b → Listing s d at j n m cap b b e n m
+    pub list-begin : {n m cap : ℕ} {b : Arrays} → after closeBracket (tokensFrom s e) ≡ missing → Long cap b → Listing s d at j n m cap b b e n m
     unfolding primaryIn tags args names
     list-begin {n} {m} {cap} {b} not lb = record {
       rules = nil;
@@ -311,11 +313,11 @@ module _ (s : List ℕ) (d at : ℕ) (j : Join) where
       joined = holds-as (holds-join (l .holds) (r .holds)) refl (ap (λ (x : ℕ). argsAll (l .rules) m ++ args (r .tree) x) (l .holds .more-names)) refl
 
       -- neither a comma nor a bracket follows
-      pub list-unclosed : {p : ℕ} → after commaSign (tokensFrom s e₂) ≡ missing → after closeSign (tokensFrom s e₂) ≡ missing → firstPlace (tokensFrom s e₂) ≡ p → Says s d at (bad (refusal bracketExpected p))
+      pub list-unclosed : {p : ℕ} → after comma (tokensFrom s e₂) ≡ missing → after closeBracket (tokensFrom s e₂) ≡ missing → firstPlace (tokensFrom s e₂) ≡ p → Says s d at (bad (refusal bracketExpected p))
       unfolding listMore
       list-unclosed c o pl f le = let v = after-item f le in v .2 ∙ rw (c, o, pl)
 
-      pub list-turn : {y : ℕ} → after commaSign (tokensFrom s e₂) ≡ rest (tokensFrom s y) → (e₂ < y) × (y ≤ length s) × (left s y < left s e₂) → Long cap a₂ → Listing s d at j n m cap b a₂ y n₂ m₂
+      pub list-turn : {y : ℕ} → after comma (tokensFrom s e₂) ≡ rest (tokensFrom s y) → (e₂ < y) × (y ≤ length s) × (left s y < left s e₂) → Long cap a₂ → Listing s d at j n m cap b a₂ y n₂ m₂
       unfolding listMore
       list-turn c lt la = record {
         rules = more (l .rules) (r .tree);
@@ -330,7 +332,7 @@ module _ (s : List ℕ) (d at : ℕ) (j : Join) where
         long = la;
       }
 
-      pub list-stop : {a₃ : Arrays} {y : ℕ} → after commaSign (tokensFrom s e₂) ≡ missing → after closeSign (tokensFrom s e₂) ≡ rest (tokensFrom s y) → (e₂ < y) × (y ≤ length s) × (left s y < left s e₂) → Long cap a₂ → n₂ < cap
+      pub list-stop : {a₃ : Arrays} {y : ℕ} → after comma (tokensFrom s e₂) ≡ missing → after closeBracket (tokensFrom s e₂) ≡ rest (tokensFrom s y) → (e₂ < y) × (y ≤ length s) × (left s y < left s e₂) → Long cap a₂ → n₂ < cap
           → Joined j n n₂ (a₂ .tags) (a₂ .args) (a₃ .tags) (a₃ .args) → a₃ .names ≡ a₂ .names
           → Read (λ (f : ℕ). primaryIn f s d (tokensFrom s at)) (3 * left s at + 1) s at n m b a₃ y (n₂ + 1) m₂
       unfolding listMore tags args names

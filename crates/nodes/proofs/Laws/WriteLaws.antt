@@ -9,7 +9,7 @@ use Rattle.slices.specs.Text.{part}
 use Rattle.slices.proofs.Laws.TextLaws.{part-length}
 use Rattle.rules.specs.Rule.{Leaf, named, olderThan, readable, Join}
 use Rattle.image.specs.Kinds.{namedKind}
-use Rattle.image.specs.Encode.{leafKind, joinKind, tag, leafArg, joinArg, leafName, tags, args, names}
+use Rattle.image.specs.Encode.{leafKind, joinKind, tag, leafArg, joinArg, leafName, tags, args, names, nameArg}
 use Rattle.grammar.specs.Inner.Starts.{leafOf}
 use Rattle.grammar.specs.declared.Test.{Test}
 use Rattle.grammar.specs.declared.Test.the-variants.{OlderThan, Readable}
@@ -39,13 +39,13 @@ leaf-written l {next} {n} {m} {b} {a} lt la p q w e =
     }
 
 pub name-written : {s : List ℕ} {start end next n m : ℕ} {b a : Arrays} {r : ParseEnd} → NameRoom s start end n m b
-    → a .tags ≡ set (b .tags) n (tag namedKind 1) → a .args ≡ set (b .args) n (m * 65536 + (end - start))
+    → a .tags ≡ set (b .tags) n (tag namedKind 1) → a .args ≡ set (b .args) n (nameArg m (end - start))
     → take (m + (end - start)) (a .names) ≡ take m (b .names) ++ part s start end
     → r ≡ Done next (n + 1) (m + (end - start)) → Written (named (part s start end)) next n m b a r
 name-written {s} {start} {end} {next} {n} {m} {b} {a} room p q w e =
     let long : end - start ≡ length (part s start end) = sym (part-length s start end (room .ordered) (room .inside)) in
     leaf-written (named (part s start end)) (room .room) (omega (arith, room)) p
-    (q ∙ ap (λ (i : ℕ). set (b .args) n (m * 65536 + i)) long)
+    (q ∙ ap (λ (i : ℕ). set (b .args) n (nameArg m i)) long)
     (ap (λ (i : ℕ). take (m + i) (a .names)) (sym long) ∙ w)
     (e ∙ ap (λ (i : ℕ). Done next (n + 1) (m + i)) long)
 

@@ -1,12 +1,13 @@
 -- What the parser's functions ask and promise: where in the text they are, and what stands in the three lent arrays.
 -- Assumes nothing.
-use Prim.Native.Nat.{ℕ, _+_, _-_, _≤_, _<_}
+use Prim.Native.Nat.{ℕ, _+_, _-_, _*_, _≤_, _<_}
 use mathlib.Core.Path.{_≡_}
 use mathlib.Core.Bool.{Bool, true, false}
 use mathlib.Core.List.{List, _++_}
 use lib.ListN.{length, take, set}
-use Rattle.classes.specs.Class.{faults}
+use Rattle.classes.specs.Inner.ClassTable.{IsClassTable}
 use Rattle.refusals.specs.declared.Refusal.{Refusal}
+use Rattle.tokens.specs.declared.Token.{Token}
 use Rattle.tokens.specs.Token.{tokensFrom}
 use Rattle.rules.specs.Rule.{Leaf, Join, Rule, leaf}
 use Rattle.image.specs.Encode as image
@@ -33,7 +34,7 @@ pub record Long (cap : ℕ) (b : Arrays) : Type 0 where
 -- before a call: the table has no faults, the position lies in the text behind the brackets that stand open, and there is room
 -- for a node and for a name byte for each byte of the text that is left
 pub record Before (class s : List ℕ) (at depth n m : ℕ) (b : Arrays) : Type 0 where
-  pub table : faults class ≡ 0
+  pub table : IsClassTable class
   pub inside : at ≤ length s
   pub shallow : depth ≤ at
   pub roomy : n + (length s - at) ≤ length (b .tags)
@@ -66,6 +67,10 @@ pub record Read (G : ℕ → ParseResult) (need : ℕ) (s : List ℕ) (at n m : 
 pub record Parsed (G : ℕ → ParseResult) (need : ℕ) (s : List ℕ) (at n m : ℕ) (b a : Arrays) (r : ParseEnd) : Type 0 where
   pub done : (e n₁ m₁ : ℕ) → r ≡ Done e n₁ m₁ → Read G need s at n m b a e n₁ m₁
   pub refused : (x : Refusal) → r ≡ Refused x → (f : ℕ) → need ≤ f → G f ≡ bad x
+
+-- of the text from a position on, by one of the grammar's functions and its level: three calls for each token left
+abbrev pub ParsedBy : (ℕ → List ℕ → ℕ → List Token → ParseResult) → ℕ → List ℕ → ℕ → ℕ → ℕ → ℕ → Arrays → Arrays → ParseEnd → Type 0
+ParsedBy G level s depth at n m b a r = Parsed (λ (f : ℕ). G f s depth (tokensFrom s at)) (3 * left s at + level) s at n m b a r
 
 -- ---- what the functions that write nodes ask and promise
 

@@ -5,7 +5,8 @@ use Prim.Native.Nat.{ℕ, _≤_, _<_}
 use native.Mathlib.Omega.{arith}
 use borrow.Author.Tests.{lt-ltb, le-ltb}
 use lib.ListN.{length, take}
-use Rattle.store_table.specs.Stores.{Entry, TableInBounds, entriesIn}
+use Rattle.store_table.specs.Stores.{Entry, entriesIn}
+use Rattle.store_table.specs.Inner.Bounds.{TableInBounds}
 use Rattle.store_table.specs.TableBytes.{tableOf}
 use Rattle.store_table.proofs.Laws.TableBytesLaws.{table-length, sum-few, table-of, table-laid}
 use Rattle.verdict.specs.declared.Verdict.{Verdict}

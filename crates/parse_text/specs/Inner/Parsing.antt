@@ -4,7 +4,7 @@ use Prim.Native.Nat.{ℕ, _≤_}
 use mathlib.Core.Path.{_≡_}
 use mathlib.Core.List.{List}
 use lib.ListN.{length, take}
-use Rattle.classes.specs.Class.{faults}
+use Rattle.classes.specs.Inner.ClassTable.{IsClassTable}
 use Rattle.refusals.specs.declared.Refusal.{Refusal}
 use Rattle.tokens.specs.Token.{tokensFrom, scanOf}
 use Rattle.tokens.specs.declared.Scanned.the-variants.{Clean}
@@ -17,7 +17,7 @@ use Rattle.nodes.specs.declared.ParseEnd.the-variants.{Done, Refused}
 
 -- the table has no faults, and the arrays have room for a node and for a name byte for each byte of the text
 pub record Ready (class s : List ℕ) (b : Arrays) : Type 0 where
-  pub table : faults class ≡ 0
+  pub table : IsClassTable class
   pub room : length s ≤ length (b .tags)
   pub few : length (b .tags) ≤ 2048
   pub long : Long (length (b .tags)) b

@@ -10,7 +10,8 @@ use lib.ListN.{length}
 use Rattle.tokens.specs.Token.{tokensFrom}
 use Rattle.rules.specs.Rule.{all, any}
 use Rattle.image.specs.Encode.{joinKind}
-use Rattle.grammar.specs.Grammar.{andSign, orSign, ParseResult, orIn, orMore, andIn, andMore}
+use Rattle.grammar.specs.Grammar.{ParseResult, orIn, orMore, andIn, andMore}
+use Rattle.classes.specs.Class.{ampersand, bar}
 use Rattle.grammar.specs.Inner.Starts.{joinOf, headNext, left}
 use Rattle.grammar.proofs.Laws.StartLaws.{head-is, head-ahead}
 use Rattle.nodes.specs.Inner.Parses.{arrays}
@@ -120,7 +121,7 @@ parse-and-parse-primary-requires-2 t c κs =
     let operand = next .before .before in
     let loop = operand .before .before in
     let inv = loop .loop .inv in
-    let f = operand-follows inv andSign (joinKind all) (operand .next-operand .ensures) (next .next .given .1) in
+    let f = operand-follows inv ampersand (joinKind all) (operand .next-operand .ensures) (next .next .given .1) in
     let entry = loop .before .before .before .before .before .before .before .before .before .before .before .before .before .before .before .before .before .before in
     (omega (arith, entry .pre .0, inv .sofar .fewer, f .signed .bounds .2), right-before inv f)
 
@@ -131,7 +132,7 @@ parse-and-returns-3 t c =
     let operand = next .before .before in
     let loop = operand .before .before in
     let inv = loop .loop .inv in
-    let f = operand-follows inv andSign (joinKind all) (operand .next-operand .ensures) (next .next .given .1) in
+    let f = operand-follows inv ampersand (joinKind all) (operand .next-operand .ensures) (next .next .given .1) in
     right-fails (and-level _ _ _) inv f (omega arith) (right .parse-primary2 .ensures) (c .enum-told3 .given .1)
 
 parse-and-push-combinator-requires : (t : ℕ) → parse-and-lts.Need-push-combinator-requires (parse-and-calls t) (parse-and-at t) parse-and.Post parse-and-Inv-loop parse-and-μ-loop
@@ -140,7 +141,7 @@ parse-and-push-combinator-requires t c κs =
     let operand = next .before .before in
     let loop = operand .before .before in
     let inv = loop .loop .inv in
-    let f = operand-follows inv andSign (joinKind all) (operand .next-operand .ensures) (next .next .given .1) in
+    let f = operand-follows inv ampersand (joinKind all) (operand .next-operand .ensures) (next .next .given .1) in
     let done = c .before .before .before in
     let right = done .before .before .before .before .before .before .before .before in
     let new = right .parse-primary2 .kept .1 .1 .1 in
@@ -152,7 +153,7 @@ parse-and-loop-less t c =
     let operand = next .before .before in
     let loop = operand .before .before in
     let inv = loop .loop .inv in
-    let f = operand-follows inv andSign (joinKind all) (operand .next-operand .ensures) (next .next .given .1) in
+    let f = operand-follows inv ampersand (joinKind all) (operand .next-operand .ensures) (next .next .given .1) in
     let done = c .before .before .before .before .before .before .before .before in
     let right = done .before .before .before .before .before .before .before .before in
     let new = right .parse-primary2 .kept .1 .1 .1 in
@@ -164,7 +165,7 @@ parse-and-loop-again t c =
     let operand = next .before .before in
     let loop = operand .before .before in
     let inv = loop .loop .inv in
-    let f = operand-follows inv andSign (joinKind all) (operand .next-operand .ensures) (next .next .given .1) in
+    let f = operand-follows inv ampersand (joinKind all) (operand .next-operand .ensures) (next .next .given .1) in
     let pushed = c .before .before .before .before in
     let done = c .before .before .before .before .before .before .before .before in
     let right = done .before .before .before .before .before .before .before .before in
@@ -217,7 +218,7 @@ parse-or-parse-and-requires-2 t c κs =
     let operand = next .before .before in
     let loop = operand .before .before in
     let inv = loop .loop .inv in
-    let f = operand-follows inv orSign (joinKind any) (operand .next-operand .ensures) (next .next .given .1) in
+    let f = operand-follows inv bar (joinKind any) (operand .next-operand .ensures) (next .next .given .1) in
     let entry = loop .before .before .before .before .before .before .before .before .before .before .before .before .before .before .before .before .before .before in
     (omega (arith, entry .pre .0, inv .sofar .fewer, f .signed .bounds .2), right-before inv f)
 
@@ -228,7 +229,7 @@ parse-or-returns-3 t c =
     let operand = next .before .before in
     let loop = operand .before .before in
     let inv = loop .loop .inv in
-    let f = operand-follows inv orSign (joinKind any) (operand .next-operand .ensures) (next .next .given .1) in
+    let f = operand-follows inv bar (joinKind any) (operand .next-operand .ensures) (next .next .given .1) in
     right-fails (or-level _ _ _) inv f (omega arith) (right .parse-and2 .ensures) (c .enum-told3 .given .1)
 
 parse-or-push-combinator-requires : (t : ℕ) → parse-or-lts.Need-push-combinator-requires (parse-or-calls t) (parse-or-at t) parse-or.Post parse-or-Inv-loop parse-or-μ-loop
@@ -237,7 +238,7 @@ parse-or-push-combinator-requires t c κs =
     let operand = next .before .before in
     let loop = operand .before .before in
     let inv = loop .loop .inv in
-    let f = operand-follows inv orSign (joinKind any) (operand .next-operand .ensures) (next .next .given .1) in
+    let f = operand-follows inv bar (joinKind any) (operand .next-operand .ensures) (next .next .given .1) in
     let done = c .before .before .before in
     let right = done .before .before .before .before .before .before .before .before in
     let new = right .parse-and2 .kept .1 .1 .1 in
@@ -249,7 +250,7 @@ parse-or-loop-less t c =
     let operand = next .before .before in
     let loop = operand .before .before in
     let inv = loop .loop .inv in
-    let f = operand-follows inv orSign (joinKind any) (operand .next-operand .ensures) (next .next .given .1) in
+    let f = operand-follows inv bar (joinKind any) (operand .next-operand .ensures) (next .next .given .1) in
     let done = c .before .before .before .before .before .before .before .before in
     let right = done .before .before .before .before .before .before .before .before in
     let new = right .parse-and2 .kept .1 .1 .1 in
@@ -261,7 +262,7 @@ parse-or-loop-again t c =
     let operand = next .before .before in
     let loop = operand .before .before in
     let inv = loop .loop .inv in
-    let f = operand-follows inv orSign (joinKind any) (operand .next-operand .ensures) (next .next .given .1) in
+    let f = operand-follows inv bar (joinKind any) (operand .next-operand .ensures) (next .next .given .1) in
     let pushed = c .before .before .before .before in
     let done = c .before .before .before .before .before .before .before .before in
     let right = done .before .before .before .before .before .before .before .before in

@@ -11,7 +11,7 @@ use Rattle.tokens.specs.declared.Next.the-variants.{Off, To}
 use Rattle.tokens.specs.Token.{placeOf, tokenAt, tokensFrom}
 use Rattle.tokens.specs.Inner.Bounds.{nextOfClass}
 use Rattle.rules.specs.Rule.{Join}
-use Rattle.grammar.specs.Grammar.{bad, after, missing, closeSign, commaSign, aGroup, aList, primaryStart, orIn, primaryIn}
+use Rattle.grammar.specs.Grammar.{bad, after, missing, aGroup, aList, primaryStart, orIn, primaryIn}
 use Rattle.grammar.specs.Inner.Starts.{left}
 use Rattle.grammar.proofs.Laws.TokenListLaws.{first-place}
 use Rattle.grammar.proofs.Laws.BehindLaws.{test-on, test-off}
@@ -31,8 +31,8 @@ module _ (s : List ℕ) (d at : ℕ) {e₀ : ℕ} (q : primaryStart s d (tokensF
   group-read {n} {m} {b} {a} {e} {n₁} {m₁} {v} r w = go (nextOfClass closeBracket (tokenAt s e)) refl w
     where
       go : (x : Next) → x ≡ nextOfClass closeBracket (tokenAt s e) → v ≡ closedBy x (placeOf (tokenAt s e)) n₁ m₁ → Parsed (λ (f : ℕ). primaryIn f s d (tokensFrom s at)) (3 * left s at + 1) s at n m b a v
-      go (To y) p g = let i = test-on s e closeSign p refl in gave-done g (closed s d at q h r (i .sign) (i .bounds))
-      go Off p g = gave-refused g (unclosed s d at q h r (test-off s e closeSign p (omega arith) (omega arith) refl) (first-place s e refl))
+      go (To y) p g = let i = test-on s e closeBracket p refl in gave-done g (closed s d at q h r (i .sign) (i .bounds))
+      go Off p g = gave-refused g (unclosed s d at q h r (test-off s e closeBracket p (omega arith) (omega arith) refl) (first-place s e refl))
 
 -- ---- a list
 -- how many tokens are left for its arguments, and one where one is next
@@ -96,8 +96,8 @@ module _ (s : List ℕ) (d at : ℕ) (j : Join) where
   list-first {place} {e} {n} {m} {cap} {b} {v} q h lb w = go (nextOfClass closeBracket (tokenAt s e)) refl w
     where
       go : (x : Next) → x ≡ nextOfClass closeBracket (tokenAt s e) → v ≡ firstBy x place e n m → Arguments s d at j n m cap b b v
-      go (To y) p g = one-refused lb g (list-empty s d at j q h (test-on s e closeSign p refl .sign))
-      go Off p g = one-next lb g (list-begin s d at j q h (test-off s e closeSign p (omega arith) (omega arith) refl) lb)
+      go (To y) p g = one-refused lb g (list-empty s d at j q h (test-on s e closeBracket p refl .sign))
+      go Off p g = one-next lb g (list-begin s d at j q h (test-off s e closeBracket p (omega arith) (omega arith) refl) lb)
 
   module _ {n m cap : ℕ} {b a : Arrays} {v : Argument} (i : Arguments s d at j n m cap b a v) where
     -- the list's end
@@ -132,7 +132,7 @@ module _ (s : List ℕ) (d at : ℕ) (j : Join) where
       arguments-fewer {r} {w} p g = rw (is, g) (by r p)
         where
           next-by : (e₂ n₂ m₂ : ℕ) (end : ParseEnd) → left s e₂ < left s e → (x : Next) → x ≡ nextOfClass comma (tokenAt s e₂) → argumentsLeft s (argumentBy x end n₂ m₂) < left s e + 1
-          next-by e₂ n₂ m₂ end lt (To y) p = let u = test-on s e₂ commaSign p refl .bounds in omega arith
+          next-by e₂ n₂ m₂ end lt (To y) p = let u = test-on s e₂ comma p refl .bounds in omega arith
           next-by e₂ n₂ m₂ end lt Off p = omega arith
 
           by : (r : ParseEnd) → Item s d e n₁ m₁ a a₂ r → argumentsLeft s (nextArgument s r) < left s e + 1
@@ -152,17 +152,17 @@ module _ (s : List ℕ) (d at : ℕ) (j : Join) where
           la : Long cap a₂
           la = still (i .long) (same .tags) (same .args) (same .names)
 
-          by-close : after commaSign (tokensFrom s e₂) ≡ missing → (x : Next) → x ≡ nextOfClass closeBracket (tokenAt s e₂) → w ≡ End (closedBy x (placeOf (tokenAt s e₂)) n₂ m₂) → Arguments s d at j n m cap b a₂ w
+          by-close : after comma (tokensFrom s e₂) ≡ missing → (x : Next) → x ≡ nextOfClass closeBracket (tokenAt s e₂) → w ≡ End (closedBy x (placeOf (tokenAt s e₂)) n₂ m₂) → Arguments s d at j n m cap b a₂ w
           by-close c (To y) q g =
-              let u = test-on s e₂ closeSign q refl in
+              let u = test-on s e₂ closeBracket q refl in
               let lt : n₂ < cap = omega (arith, l .room, r .room, u .bounds) in
               all-read la g record {
                 some = omega (arith, l .some, r .some);
                 room = lt;
                 written = λ t k. list-stop s d at j l r c (u .sign) (u .bounds) la lt t k;
               }
-          by-close c Off q g = one-refused la g (list-unclosed s d at j l r c (test-off s e₂ closeSign q (omega arith) (omega arith) refl) (first-place s e₂ refl))
+          by-close c Off q g = one-refused la g (list-unclosed s d at j l r c (test-off s e₂ closeBracket q (omega arith) (omega arith) refl) (first-place s e₂ refl))
 
           by-comma : (x : Next) → x ≡ nextOfClass comma (tokenAt s e₂) → w ≡ argumentBy x (groupEnd s e₂ n₂ m₂) n₂ m₂ → Arguments s d at j n m cap b a₂ w
-          by-comma (To y) q g = let u = test-on s e₂ commaSign q refl in one-next la g (list-turn s d at j l r (u .sign) (u .bounds) la)
-          by-comma Off q g = by-close (test-off s e₂ commaSign q (omega arith) (omega arith) refl) (nextOfClass closeBracket (tokenAt s e₂)) refl g
+          by-comma (To y) q g = let u = test-on s e₂ comma q refl in one-next la g (list-turn s d at j l r (u .sign) (u .bounds) la)
+          by-comma Off q g = by-close (test-off s e₂ comma q (omega arith) (omega arith) refl) (nextOfClass closeBracket (tokenAt s e₂)) refl g

@@ -6,12 +6,14 @@ use mathlib.Core.List.{List}
 use native.Mathlib.Omega.{arith}
 use lib.Dec.{eqb}
 use lib.ListN.{length, getD}
-use Rattle.classes.specs.Class.{faults, openBracket, ampersand, bar}
+use Rattle.classes.specs.Class.{openBracket, ampersand, bar}
+use Rattle.classes.specs.Inner.ClassTable.{IsClassTable}
 use Rattle.tokens.specs.declared.Next.{Next}
 use Rattle.tokens.specs.declared.Next.the-variants.{Off, To}
 use Rattle.tokens.specs.Token.{tokenAt, tokensFrom}
 use Rattle.tokens.specs.Inner.Bounds.{nextOfClass}
 use Rattle.rules.specs.Rule.{Join}
+use Rattle.image.specs.Layout.{tagKind}
 use Rattle.image.specs.Encode.{joinKind}
 use Rattle.grammar.specs.Grammar.{ParseResult, missing, after}
 use Rattle.grammar.specs.Inner.Starts.{left}
@@ -55,26 +57,26 @@ near false n h = omega arith
 -- an operand is at y, after k nodes
 pub record Follows (s : List ℕ) (e sign : ℕ) (tags : List ℕ) (n kind y k : ℕ) : Type 0 where
   pub signed : Signed s e sign y
-  pub keeps : (k ≡ keepIf (eqb (getD tags (n - 1) 0 % 256) kind) n) × ((k ≤ n) × (n ≤ k + 1))
+  pub keeps : (k ≡ keepIf (eqb (tagKind (getD tags (n - 1) 0)) kind) n) × ((k ≤ n) × (n ≤ k + 1))
 
 module _ (s : List ℕ) (e sign : ℕ) (tags : List ℕ) (n kind : ℕ) {r : Operand} (q : r ≡ nextOperand s e sign tags n kind) where
   follows : 0 < n → {y k : ℕ} → r ≡ At y k → Follows s e sign tags n kind y k
   follows pos {y} {k} h = go (nextOfClass sign (tokenAt s e)) refl (sym h ∙ q)
     where
-      go : (v : Next) → v ≡ nextOfClass sign (tokenAt s e) → At y k ≡ operandBy v (keepIf (eqb (getD tags (n - 1) 0 % 256) kind) n) → Follows s e sign tags n kind y k
+      go : (v : Next) → v ≡ nextOfClass sign (tokenAt s e) → At y k ≡ operandBy v (keepIf (eqb (tagKind (getD tags (n - 1) 0)) kind) n) → Follows s e sign tags n kind y k
       go (To z) p g =
           let same : z ≡ y = cc in
-          let keep : k ≡ keepIf (eqb (getD tags (n - 1) 0 % 256) kind) n = cc in
+          let keep : k ≡ keepIf (eqb (tagKind (getD tags (n - 1) 0)) kind) n = cc in
           record {
             signed = test-on s e sign p (ap To same);
-            keeps = (keep, rw keep (near (eqb (getD tags (n - 1) 0 % 256) kind) n pos));
+            keeps = (keep, rw keep (near (eqb (tagKind (getD tags (n - 1) 0)) kind) n pos));
           }
       go Off p g = let z : _≡_ {A = ℕ} 0 1 = cc in absurd (omega arith)
 
   follows-not : openBracket ≤ sign → sign ≤ bar → r ≡ None → after sign (tokensFrom s e) ≡ missing
   follows-not lo hi h = go (nextOfClass sign (tokenAt s e)) refl (sym h ∙ q)
     where
-      go : (v : Next) → v ≡ nextOfClass sign (tokenAt s e) → None ≡ operandBy v (keepIf (eqb (getD tags (n - 1) 0 % 256) kind) n) → after sign (tokensFrom s e) ≡ missing
+      go : (v : Next) → v ≡ nextOfClass sign (tokenAt s e) → None ≡ operandBy v (keepIf (eqb (tagKind (getD tags (n - 1) 0)) kind) n) → after sign (tokensFrom s e) ≡ missing
       go (To z) p g = let z : _≡_ {A = ℕ} 0 1 = cc in absurd (omega arith)
       go Off p g = test-off s e sign p lo hi refl
 
@@ -104,7 +106,7 @@ module _ {class s : List ℕ} {G : ℕ → ParseResult} {More : ℕ → ParseRes
 
 -- a turn: what its calls ask, and what it gives
 module _ {class s : List ℕ} {G : ℕ → ParseResult} {More : ℕ → ParseResult → ParseResult} {at d n m need : ℕ} {b a : Arrays} {e n₁ m₁ : ℕ} (c : Chaining G More need class s at d n m b a e n₁ m₁) where
-  pub operand-asks : {sign : ℕ} → (ampersand ≤ sign) × (sign ≤ bar) → (faults class ≡ 0) × ((ampersand ≤ sign) × ((sign ≤ bar) × ((0 < n₁) × (n₁ ≤ length (a .tags)))))
+  pub operand-asks : {sign : ℕ} → (ampersand ≤ sign) × (sign ≤ bar) → IsClassTable class × ((ampersand ≤ sign) × ((sign ≤ bar) × ((0 < n₁) × (n₁ ≤ length (a .tags)))))
   operand-asks h = let p = c .before in let l = c .sofar in (p .table, (h .0, (h .1, (omega (arith, l .some), omega (arith, p .roomy, l .room, l .within, l .long .tags)))))
 
   pub operand-follows : (sign kind : ℕ) {r : Operand} → r ≡ nextOperand s e sign (a .tags) n₁ kind → {y k : ℕ} → r ≡ At y k → Follows s e sign (a .tags) n₁ kind y k

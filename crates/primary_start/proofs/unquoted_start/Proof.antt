@@ -6,7 +6,8 @@ use mathlib.Core.List.{List}
 use native.Mathlib.Omega.{arith}
 use Rattle.slices.specs.Text.{bytes}
 use Rattle.ascii.specs.Letters.{equalIgnoringCase}
-use Rattle.grammar.specs.Grammar.{openSign, functionOf, unquotedLeaf}
+use Rattle.grammar.specs.Grammar.{functionOf, unquotedLeaf}
+use Rattle.classes.specs.Class.{openBracket}
 use Rattle.grammar.proofs.Laws.BehindLaws.{test-off, test-on, test-place}
 use Rattle.grammar.proofs.Laws.StartLaws.{begins-name, begins-leaf, begins-refused, begins-within, told, too-deep, not-deep}
 use borrow.Author.Needs.{needs}
@@ -24,7 +25,7 @@ returns c =
     let b = m .before .before in
     begins-leaf
     (rw (
-      test-off _ _ openSign (b .bracket-at .ensures) (omega arith) (omega arith) (m .enum-told .given .1),
+      test-off _ _ openBracket (b .bracket-at .ensures) (omega arith) (omega arith) (m .enum-told .given .1),
       told is-readable (b .before .word-of .ensures) (c .before .eq-ignore-ascii-case .ensures) (c .if1 .taken),
     ))
     (omega arith)
@@ -36,7 +37,7 @@ returns-2 c =
     let b = m .before .before in
     begins-name
     (rw (
-      test-off _ _ openSign (b .bracket-at .ensures) (omega arith) (omega arith) (m .enum-told .given .1),
+      test-off _ _ openBracket (b .bracket-at .ensures) (omega arith) (omega arith) (m .enum-told .given .1),
       told is-readable (b .before .word-of .ensures) (c .before .eq-ignore-ascii-case .ensures) (c .if1 .left),
     ))
     (omega arith)
@@ -45,7 +46,7 @@ returns-2 c =
 sub-refuse : tie.Need-sub-refuse
 sub-refuse c =
     let i = c .before .before in
-    let inside = (test-on _ _ openSign (i .before .before .bracket-at .ensures) (i .inside .given .1)) .bounds in
+    let inside = (test-on _ _ openBracket (i .before .before .bracket-at .ensures) (i .inside .given .1)) .bounds in
     omega arith
 
 returns-3 : tie.Need-returns-3
@@ -54,15 +55,15 @@ returns-3 c =
     let b = i .before .before in
     begins-refused (c .refuse .ensures) refl
     (rw (
-      (test-on _ _ openSign (b .bracket-at .ensures) (i .inside .given .1)) .sign,
+      (test-on _ _ openBracket (b .bracket-at .ensures) (i .inside .given .1)) .sign,
       too-deep (c .before .if2 .taken) (omega arith),
-      test-place _ _ openSign (b .bracket-at .ensures) (i .inside .given .1) (omega arith),
+      test-place _ _ openBracket (b .bracket-at .ensures) (i .inside .given .1) (omega arith),
     ))
 
 call-start-requires : tie.Need-call-start-requires
 call-start-requires c κs =
     let i = c .before .before .before in
-    let inside = (test-on _ _ openSign (i .before .before .bracket-at .ensures) (i .inside .given .1)) .bounds in
+    let inside = (test-on _ _ openBracket (i .before .before .bracket-at .ensures) (i .inside .given .1)) .bounds in
     omega arith
 
 returns-4 : tie.Need-returns-4
@@ -70,7 +71,7 @@ returns-4 c =
     let d = c .before .before in
     let i = d .before .before in
     let b = i .before .before in
-    let opening = test-on _ _ openSign (b .bracket-at .ensures) (i .inside .given .1) in
+    let opening = test-on _ _ openBracket (b .bracket-at .ensures) (i .inside .given .1) in
     let inside = opening .bounds in
     rw (opening .sign, not-deep (d .if2 .left) (omega arith), ← c .before .function-of .ensures ∙ ap functionOf (b .before .word-of .ensures))
     (begins-within (c .call-start .ensures) (omega arith) (omega arith) (omega arith))

@@ -6,12 +6,13 @@ use Prim.Native.Nat.{ℕ, _≤_, _<_}
 use native.Mathlib.Omega.{arith}
 use borrow.Author.Tests.{lt-ltb, le-ltb}
 use lib.ListN.{length, drop}
-use Rattle.slices.specs.Written.{WrittenAt}
+use Rattle.slices.specs.Text.{WrittenAt}
 use Rattle.slices.proofs.Laws.WrittenLaws.{written-front}
 use Rattle.refusals.specs.Refusals.{refusal, shortBuffer, badImage}
 use Rattle.rules.specs.Rule.{Rule, size}
 use Rattle.image.specs.Layout.{nodeCountIn}
-use Rattle.image.specs.Decode.{isSome, cellAt, decode}
+use Rattle.image.specs.Decode.{cellAt, decode}
+use Rattle.image.specs.Inner.Valid.{isSome}
 use Rattle.image.proofs.Laws.FitLaws.{isSome-true, isSome-false}
 use Rattle.image.specs.Inner.Standing.{EncodedAt}
 use Rattle.image.proofs.Laws.InsideLaws.{decode-whole}

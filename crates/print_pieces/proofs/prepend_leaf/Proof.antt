@@ -3,7 +3,7 @@ use native.Mathlib.Omega.{arith}
 use borrow.Author.Needs.{needs}
 use lib.ListN.{length-append}
 use Rattle.image.specs.Decode.{meaning}
-use Rattle.image.proofs.Laws.KindLaws.{above-leaf}
+use Rattle.image.proofs.Laws.KindLaws.{other-kind}
 use Rattle.print_text.specs.Print.{leafText}
 use Rattle.print_text.specs.Inner.Pieces.{leafTextOf}
 use Rattle.slices.proofs.Laws.WrittenLaws.{put-none, put-before}
@@ -83,7 +83,7 @@ returns-3 c =
 returns-4 : tie.Need-returns-4
 returns-4 c =
     let s = c .before .before .before in
-    rw (no-leaf-text (s .args .image .now) (s .args .n) (s .args .kind) (s .args .arg) (above-leaf (s .args .kind) (omega arith))) (put-none _ _)
+    rw (no-leaf-text (s .args .image .now) (s .args .n) (s .args .kind) (s .args .arg) (other-kind (s .args .kind) (λ q. omega arith) (λ q. omega arith) (λ q. omega arith))) (put-none _ _)
 
 pub prepend-leaf-spec : {M : Type 1} → statement M
 prepend-leaf-spec =

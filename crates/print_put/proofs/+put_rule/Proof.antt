@@ -14,7 +14,7 @@ use Rattle.image.specs.Inner.Standing.{EncodedAt}
 use Rattle.image.specs.Inner.Valid.{nodeOf}
 use Rattle.image.proofs.Laws.EncodeLaws.{size-pos}
 use Rattle.image.proofs.Laws.CellLaws.{name-inside}
-use Rattle.slices.specs.Written.{WrittenAt}
+use Rattle.slices.specs.Text.{WrittenAt}
 use Rattle.slices.proofs.Laws.WrittenLaws.{put-none, put-before, put-length}
 use Rattle.print_text.specs.Print.{textOf}
 use Rattle.print_text.proofs.Laws.ChildrenLaws.{Walks, walks-start, Turn, turn, walks-next, walks-done, leaf-text}

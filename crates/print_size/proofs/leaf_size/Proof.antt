@@ -4,7 +4,7 @@ use native.Mathlib.Omega.{arith}
 use borrow.Author.Needs.{needs}
 use lib.ListN.{length, length-append}
 use Rattle.image.specs.Decode.{meaning}
-use Rattle.image.proofs.Laws.KindLaws.{above-leaf}
+use Rattle.image.proofs.Laws.KindLaws.{other-kind}
 use Rattle.print_text.specs.Inner.Pieces.{leafTextOf}
 use Rattle.decimal.proofs.Laws.DigitsLaws.{digits-short}
 use Rattle.duration_text.proofs.Laws.DurationTextLaws.{duration-short}
@@ -34,7 +34,9 @@ unfolding meaning leafTextOf
 returns-3 c = rw (c .before .match .keys3) (simp length-append (omega arith))
 
 returns-4 : tie.Need-returns-4
-returns-4 c = let s = c .before .before .args in rw (no-leaf-text (s .image .now) (s .n) (s .kind) (s .arg) (above-leaf (s .kind) (omega arith)))
+returns-4 c =
+    let s = c .before .before .args in
+    rw (no-leaf-text (s .image .now) (s .n) (s .kind) (s .arg) (other-kind (s .kind) (λ q. omega arith) (λ q. omega arith) (λ q. omega arith)))
 
 pub leaf-size-spec : {M : Type 1} → statement M
 leaf-size-spec =

@@ -10,12 +10,12 @@ use borrow.Author.Tests.{eqb-true, ne-eqb}
 use Rattle.slices.specs.Text.{bytes}
 use Rattle.rules.specs.Rule.{named, olderThan, readable, Join, atLeast, all, any, Rule, leaf, node, size, sizes}
 use Rattle.image.specs.Kinds.{atLeastKind, allKind, anyKind}
-use Rattle.image.specs.Layout.{namesStart}
+use Rattle.image.specs.Layout.{namesStart, nameStart, nameLength}
 use Rattle.image.specs.Encode.{leafKind, joinKind, joinArg}
 use Rattle.image.specs.Decode.{Meaning, aLeaf, aJoin, nothing, meaning, Cell}
 use Rattle.image.specs.Inner.Leaves.{isLeaf}
 use Rattle.image.specs.Inner.Standing.{EncodedAt}
-use Rattle.image.proofs.Laws.KindLaws.{above-leaf, says, NoLeaf, no-leaf}
+use Rattle.image.proofs.Laws.KindLaws.{other-kind, says, NoLeaf, no-leaf}
 use Rattle.print_text.specs.Print.{opening, behind, isAny, bracketed, bracket, childText}
 use Rattle.print_text.specs.Inner.Pieces.{leafTextOf, leafIn, openingOf, behindOf, bracketedOf, frontOf, backOf}
 use Rattle.decimal.proofs.Laws.DigitsLaws.{digits-short}
@@ -145,7 +145,7 @@ opening-short any = omega arith
 
 pub leaf-short : (s : List ℕ) (n k a : ℕ) → length (leafIn s n k a) ≤ 65_535
 unfolding meaning leafTextOf
-leaf-short s n zero a = omega (arith, length-take (a % 65536) (drop (namesStart n + a / 65536) s))
+leaf-short s n zero a = omega (arith, length-take (nameLength a) (drop (namesStart n + nameStart a) s))
 leaf-short s n (suc zero) a = simp length-append (omega (arith, duration-short a))
 leaf-short s n (suc (suc zero)) a = simp length-append (omega (arith, digits-short a))
-leaf-short s n (suc (suc (suc k))) a = rw (no-leaf-text s n (suc (suc (suc k))) a (above-leaf (suc (suc (suc k))) (omega arith))) (omega arith)
+leaf-short s n (suc (suc (suc k))) a = rw (no-leaf-text s n (suc (suc (suc k))) a (other-kind (suc (suc (suc k))) (λ q. omega arith) (λ q. omega arith) (λ q. omega arith))) (omega arith)

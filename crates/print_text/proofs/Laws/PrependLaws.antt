@@ -5,7 +5,7 @@ use Prim.Native.Nat.{ℕ, _+_, _-_, _≤_}
 use native.Mathlib.Omega.{arith}
 use lib.Dec.{eqb}
 use lib.ListN.{length}
-use Rattle.slices.specs.Written.{WrittenAt}
+use Rattle.slices.specs.Text.{WrittenAt}
 use Rattle.slices.proofs.Laws.WrittenLaws.{put-length}
 use Rattle.rules.specs.Rule.{Rule, size}
 use Rattle.image.specs.Decode.{Node, cellAt}

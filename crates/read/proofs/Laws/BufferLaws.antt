@@ -6,7 +6,7 @@ use native.Mathlib.Omega.{arith}
 use borrow.Author.Tests.{lt-ltb, le-ltb}
 use lib.ListN.{length, take, drop}
 use Rattle.refusals.specs.Refusals.{refusal, shortBuffer}
-use Rattle.slices.specs.Written.{written}
+use Rattle.slices.specs.Text.{written}
 use Rattle.slices.proofs.Laws.WrittenLaws.{written-front}
 use Rattle.image.specs.Layout.{namesStart}
 use Rattle.image.specs.Encode.{tags, args, names, imageOf, encode}

@@ -4,7 +4,8 @@ use mathlib.Core.Bool.{true}
 use native.Mathlib.Omega.{arith}
 use borrow.Author.Needs.{needs}
 use borrow.Author.Tests.{not-true, not-false}
-use Rattle.image.specs.Decode.{isSome, decode}
+use Rattle.image.specs.Decode.{decode}
+use Rattle.image.specs.Inner.Valid.{isSome}
 use Rattle.image.proofs.Laws.InsideLaws.{image-inside, image-few}
 use Rattle.verdict.proofs.Laws.GuaranteeLaws.{with-checked}
 use Rattle.verdict.proofs.Laws.CheckLaws.{refused-16, checks-image}

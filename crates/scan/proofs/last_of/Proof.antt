@@ -1,6 +1,6 @@
 -- `scan::last_of` meets its contract. Assumes nothing.
 use mathlib.Core.Path.{sym, ap}
-use Rattle.tokens.specs.Token.{lastOf}
+use Rattle.tokens.specs.Inner.Bounds.{lastOf}
 use Rattle.tokens.proofs.Tags.{not-fault}
 use borrow.Author.Needs.{needs}
 use Rattle.scan.proofs.last_of.Statement.{statement}

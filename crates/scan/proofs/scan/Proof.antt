@@ -4,7 +4,8 @@ use Prim.Native.Nat.{_-_}
 use native.Mathlib.Omega.{arith}
 use borrow.Author.Needs.{needs}
 use lib.ListN.{length}
-use Rattle.tokens.specs.Token.{nextOf, tokensFrom, lastOf, scanOf}
+use Rattle.tokens.specs.Token.{nextOf, tokensFrom, scanOf}
+use Rattle.tokens.specs.Inner.Bounds.{lastOf}
 use Rattle.tokens.proofs.Laws.TokenLaws.{goes-on, scan-on, scan-end}
 use Rattle.scan.proofs.scan.Statement.{statement}
 use Rattle.scan.proofs.scan.Tie as tie

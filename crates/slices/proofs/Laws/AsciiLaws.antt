@@ -7,7 +7,7 @@ use native.Mathlib.Omega.{arith}
 use borrow.Author.Tests.{ltb-true, ltb-false, lt-ltb, le-ltb}
 use lib.Dec.{ltb}
 use lib.ListN.{take, drop}
-use Rattle.slices.specs.Search.{largest}
+use Rattle.slices.specs.Inner.Search.{largest}
 use Rattle.slices.specs.Text.{allAscii, AllBytes}
 
 max-below : (a b k : ℕ) → (ltb a k && ltb b k) ≡ ltb (max a b) k

@@ -10,7 +10,8 @@ use lib.Dec.{leb}
 use lib.ListN.{length, drop, getD, drop-of-length-le}
 use lib.Seq.{drop-cons}
 use Rattle.ascii.specs.Letters.{within}
-use Rattle.slices.specs.Search.{largest, endOfLast}
+use Rattle.slices.specs.Text.{endOfLast}
+use Rattle.slices.specs.Inner.Search.{largest}
 
 module _ (s : List ℕ) (i : ℕ) where
   -- past the end of the list

@@ -8,7 +8,7 @@ use native.Mathlib.Decide.{ℕ-discrete}
 use native.Mathlib.Omega.{arith}
 use lib.ListN.{length, getD, set, take, drop, length-append, length-take, length-drop, take-append-drop}
 use lib.Seq.{length-take-le, take-suc, take-at, take-append-le, take-take, drop-at, drop-drop, sets, sets-eq, getD-set-same, getD-set-other}
-use Rattle.slices.specs.Written.{written, WrittenAt}
+use Rattle.slices.specs.Text.{written, WrittenAt}
 
 pub written-none : (s : List ℕ) (at : ℕ) → s ≡ written s at []
 unfolding written

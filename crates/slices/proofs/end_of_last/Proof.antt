@@ -6,7 +6,7 @@ use Prim.Native.Nat.{_≤_, _-_}
 use native.Mathlib.Omega.{arith}
 use lib.ListN.{getD}
 use Rattle.ascii.specs.Letters.{within}
-use Rattle.slices.specs.Search.{endOfLast}
+use Rattle.slices.specs.Text.{endOfLast}
 use Rattle.slices.proofs.Laws.SearchLaws.{last-here, last-before, last-none, is-within, is-below, is-above}
 use Rattle.slices.proofs.end_of_last.Statement.{statement}
 use Rattle.slices.proofs.end_of_last.Tie as tie

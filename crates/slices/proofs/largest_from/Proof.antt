@@ -4,7 +4,7 @@ use mathlib.Core.Logic.{⊎-elim}
 use Prim.Native.Nat.{_-_, max}
 use native.Mathlib.Omega.{arith}
 use lib.ListN.{length, drop}
-use Rattle.slices.specs.Search.{largest}
+use Rattle.slices.specs.Inner.Search.{largest}
 use Rattle.slices.proofs.Laws.SearchLaws.{largest-out, largest-on}
 use Rattle.slices.proofs.largest_from.Statement.{statement}
 use Rattle.slices.proofs.largest_from.Tie as tie

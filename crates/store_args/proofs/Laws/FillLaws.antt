@@ -6,14 +6,13 @@ use native.Mathlib.Numerals.{add-one}
 use native.Mathlib.Omega.{arith}
 use lib.ListN.{length, take, drop, set, length-append}
 use lib.Seq.{take-suc-set, append-snoc}
-use Rattle.slices.specs.Text.{runEnd, other}
-use Rattle.slices.specs.Written.{WrittenAt}
+use Rattle.slices.specs.Text.{runEnd, other, WrittenAt}
 use Rattle.slices.proofs.Laws.WrittenLaws.{put-front}
 use Rattle.store_table.specs.Stores.{Entry}
 use Rattle.store_table.specs.TableBytes.{modes, lengths, joined}
-use Rattle.store_args.specs.Arguments.{split, nextArg, store, wrong, givenBy, Stores, stores, wrongAt, before, storesFrom, storesIn}
+use Rattle.store_args.specs.Arguments.{split, store, wrong, givenBy, Stores, stores, wrongAt, before, storesFrom, storesIn}
 use Rattle.store_args.proofs.Laws.ArgumentsLaws.{given-fits}
-use Rattle.store_args.specs.Inner.Filling.{Arrays, OneOf, Hold, FilledBy}
+use Rattle.store_args.specs.Inner.Filling.{Arrays, OneOf, Hold, FilledBy, nextArg}
 use Rattle.store_args.proofs.Laws.SplitLaws.{Walk, walk-start, walk-in, walk-on, split-on, split-end}
 use Rattle.store_args.specs.declared.Fault.{Fault}
 use Rattle.store_args.specs.declared.One.{One}

@@ -7,9 +7,8 @@ use native.Mathlib.Omega.{arith}
 use borrow.Author.Tests.{lt-ltb, le-ltb, eq-eqb, ne-eqb}
 use lib.ListN.{length, take, drop, set, length-drop}
 use lib.Seq.{length-take-le, take-all}
-use Rattle.slices.specs.Text.{bytes, allAscii}
+use Rattle.slices.specs.Text.{bytes, allAscii, WrittenAt}
 use Rattle.ascii.specs.Letters.{equal}
-use Rattle.slices.specs.Written.{WrittenAt}
 use Rattle.store_table.specs.Stores.{readWrite, readOnly, writeOnly}
 use Rattle.store_args.specs.Arguments as arguments
 use Rattle.store_args.specs.Arguments.{wrong, named, modeTested, behindColon, colonTested, givenBy}

@@ -4,10 +4,11 @@ use mathlib.Core.List.{List, _++_, append-assoc}
 use Prim.Native.Nat.{ℕ, _≤_}
 use native.Mathlib.Omega.{arith}
 use lib.ListN.{length, take}
-use Rattle.slices.specs.Written.{written, WrittenAt}
+use Rattle.slices.specs.Text.{written, WrittenAt}
 use Rattle.slices.proofs.Laws.WrittenLaws.{put-front, put-behind}
 use Rattle.little_endian.specs.Bytes.{leBytes}
-use Rattle.store_table.specs.Stores.{countStart, totalStart, modesStart, Entry}
+use Rattle.store_table.specs.Stores.{modesStart, Entry}
+use Rattle.store_table.specs.Inner.Bounds.{countStart, totalStart}
 use Rattle.store_table.specs.TableBytes.{modes, lengths, joined, tableOf}
 use Rattle.store_table.proofs.Laws.TableBytesLaws.{length-joined, sum-few}
 use Rattle.store_args.specs.Arguments.{split, Stores, storesIn}

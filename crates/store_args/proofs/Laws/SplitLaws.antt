@@ -11,7 +11,8 @@ use lib.ListN.{length, take, drop, drop-of-length-le}
 use lib.Seq.{drop-cons, drop-drop}
 use Rattle.slices.specs.Text.{run, runEnd, other}
 use Rattle.slices.proofs.Laws.TextLaws.{end-within}
-use Rattle.store_args.specs.Arguments.{split, nextArg}
+use Rattle.store_args.specs.Arguments.{split}
+use Rattle.store_args.specs.Inner.Filling.{nextArg}
 
 -- the first argument ends where the first 0 stands
 abbrev First : List ℕ → Type 0

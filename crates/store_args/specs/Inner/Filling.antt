@@ -1,9 +1,9 @@
 -- What the functions that make a table of arguments answer. Assumes nothing.
-use Prim.Native.Nat.{ℕ, _≤_}
+use Prim.Native.Nat.{ℕ, suc, min, _≤_}
 use mathlib.Core.Path.{_≡_}
 use mathlib.Core.List.{List}
 use lib.ListN.{length, take, set}
-use Rattle.slices.specs.Written.{WrittenAt}
+use Rattle.slices.specs.Text.{runEnd, other, WrittenAt}
 use Rattle.store_table.specs.Stores.{Entry}
 use Rattle.store_table.specs.TableBytes as table
 use Rattle.store_args.specs.Arguments as arguments
@@ -17,6 +17,10 @@ use Rattle.store_args.specs.declared.Filled.{Filled}
 use Rattle.store_args.specs.declared.Filled.the-variants.{Stores as All, Wrong as First}
 use Rattle.store_args.specs.declared.Made.{Made}
 use Rattle.store_args.specs.declared.Made.the-variants.{Table, Wrong as Bad}
+
+-- where the argument after that at a position begins, or the end
+abbrev pub nextArg : List ℕ → ℕ → ℕ
+nextArg s at = min (suc (runEnd (other 0) s at)) (length s)
 
 -- a mode, and where the name at the front of an argument ends
 abbrev pub given : List ℕ → Given → arguments.Given

@@ -11,7 +11,8 @@ use Rattle.store_table.specs.Names.{sameName, has}
 use Rattle.store_table.proofs.Laws.NamesLaws.{has-next}
 use Rattle.store_table.proofs.Laws.SameLaws.{same-not}
 use Rattle.store_table.proofs.Laws.MemberLaws.{same-eq, eq-same}
-use Rattle.store_table.specs.Stores.{Entry, TableInBounds, countIn, entriesIn, allNames, twinOf}
+use Rattle.store_table.specs.Stores.{Entry, countIn, entriesIn, allNames, twinOf}
+use Rattle.store_table.specs.Inner.Bounds.{TableInBounds}
 use Rattle.store_table.proofs.Laws.WalkLaws.{length-entries}
 use Rattle.store_table.proofs.Laws.EntryLaws.{at-below, has-at, one-place}
 use Rattle.store_table.specs.Inner.Index.{EntryAt, Blank, Marked}

@@ -9,7 +9,8 @@ use lib.Dec.{eqb, leb}
 use lib.ListN.{length, take, drop}
 use Rattle.little_endian.specs.Bytes.{leAt}
 use Rattle.slices.specs.Text.{allAscii}
-use Rattle.store_table.specs.Stores.{countStart, totalStart, modesStart, lengthsStart, namesStart, countIn, totalIn, modesIn, lengthsIn, nameBytesIn, sum, allAtMost, wellMade, TableInBounds}
+use Rattle.store_table.specs.Stores.{modesStart, lengthsStart, namesStart, countIn, totalIn, modesIn, lengthsIn, nameBytesIn, sum, allAtMost, wellMade}
+use Rattle.store_table.specs.Inner.Bounds.{TableInBounds, countStart, totalStart}
 
 -- bytes that are too short
 pub unmade-short : (most : ℕ) (s : List ℕ) → length s < modesStart → false ≡ wellMade most s

@@ -11,7 +11,8 @@ use Rattle.little_endian.specs.Bytes.{leBytes, leAt}
 use Rattle.little_endian.proofs.Laws.BytesLaws.{leNumber-leBytes, bytes-append, bytes-number}
 use Rattle.slices.specs.Text.{allAscii, AllBytes}
 use Rattle.slices.proofs.Laws.AsciiLaws.{bytes-ascii, append-ascii}
-use Rattle.store_table.specs.Stores.{Entry, entriesFrom, entriesIn, sum, allAtMost, wellMade, TableInBounds, countStart, totalStart, modesStart, lengthsStart, namesStart}
+use Rattle.store_table.specs.Stores.{Entry, entriesFrom, entriesIn, sum, allAtMost, wellMade, modesStart, lengthsStart, namesStart}
+use Rattle.store_table.specs.Inner.Bounds.{TableInBounds, countStart, totalStart}
 use Rattle.store_table.proofs.Laws.StoresLaws.{made-names, well-made-laid}
 use Rattle.store_table.specs.TableBytes.{modes, lengths, joined, tableOf}
 

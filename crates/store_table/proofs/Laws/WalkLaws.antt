@@ -6,7 +6,8 @@ use native.Mathlib.Numerals.{add-one}
 use native.Mathlib.Omega.{arith}
 use lib.ListN.{length, take, drop, getD, length-drop}
 use lib.Seq.{length-take-le, take-all, drop-nil, drop-cons, drop-drop}
-use Rattle.store_table.specs.Stores.{modesStart, lengthsStart, namesStart, Entry, entriesFrom, entriesIn, countIn, modesIn, lengthsIn, nameBytesIn, sum, TableInBounds}
+use Rattle.store_table.specs.Stores.{modesStart, lengthsStart, namesStart, Entry, entriesFrom, entriesIn, countIn, modesIn, lengthsIn, nameBytesIn, sum}
+use Rattle.store_table.specs.Inner.Bounds.{TableInBounds}
 use Rattle.store_table.proofs.Laws.PartLaws.{part-get, part-at, sum-on}
 use Rattle.store_table.specs.Inner.Index.{Standing, EntryAt, lengthAt}
 

@@ -8,7 +8,8 @@ use lib.Dec.{leb}
 use lib.ListN.{length, getD, take, drop}
 use Rattle.little_endian.specs.Bytes.{leAt}
 use Rattle.store_table.specs.Names.{sameName, has}
-use Rattle.store_table.specs.Stores.{Entry, entriesFrom, countIn, modesIn, lengthsIn, entriesIn, sum, allNames, TableInBounds}
+use Rattle.store_table.specs.Stores.{Entry, entriesFrom, countIn, modesIn, lengthsIn, entriesIn, sum, allNames}
+use Rattle.store_table.specs.Inner.Bounds.{TableInBounds}
 use Rattle.store_table.specs.declared.Found.{Found}
 use Rattle.store_table.specs.declared.Found.the-variants.{No, At}
 
@@ -53,6 +54,10 @@ pub record Indexed (s : List ℕ) (first : ℕ) (starts slots : List ℕ) : Type
   pub begins : (k : ℕ) → k < first → Standing s (countIn s) k (getD starts k 0)
   pub kept : (h : ℕ) → getD slots h 0 ≤ first
   pub filled : (w : List ℕ) → has w (allNames (take first (entriesIn s))) ≡ true → getD slots (hashOf w) 0 ≡ 0 → ⊥
+
+-- all entries are indexed
+abbrev pub IndexedAll : List ℕ → List ℕ → List ℕ → Type 0
+IndexedAll s starts slots = Indexed s (countIn s) starts slots
 
 -- nothing is written yet
 abbrev pub Blank : List ℕ → Type 0

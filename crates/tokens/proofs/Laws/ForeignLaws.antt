@@ -9,7 +9,7 @@ use borrow.Author.Tests.{lt-leb}
 use lib.Dec.{eqb}
 use lib.ListN.{length}
 use Rattle.slices.specs.Text.{run, runEnd}
-use Rattle.slices.specs.Search.{largest}
+use Rattle.slices.specs.Inner.Search.{largest}
 use Rattle.classes.specs.Class.{isBlank, isQuote, isWord, classOf, foreign}
 use Rattle.tokens.specs.Token.{ascii}
 use Rattle.tokens.proofs.Laws.TokenLaws.{by-cond}

@@ -20,8 +20,8 @@ use Rattle.tokens.specs.declared.Token.the-variants.{End, Open, Close, C
 use Rattle.tokens.specs.declared.Next.{Next}
 use Rattle.tokens.specs.declared.Next.the-variants.{Off, To}
 use Rattle.tokens.specs.declared.Scanned.{Scanned}
-use Rattle.tokens.specs.Token.{doubled, quotedTo, quotedAt, unquotedTo, unquotedAt, tokenOf, startAt, tokenAt, nextOf, onward, tokensBy, tokensFrom, unless, lastOf, scanOf}
-use Rattle.tokens.specs.Inner.Bounds.{Lexed}
+use Rattle.tokens.specs.Token.{doubled, quotedTo, quotedAt, unquotedTo, unquotedAt, tokenOf, startAt, tokenAt, nextOf, onward, tokensBy, tokensFrom, unless, scanOf}
+use Rattle.tokens.specs.Inner.Bounds.{Lexed, lastOf}
 
 -- ---- the token at a position, where the blanks before it end at p
 module _ (s : List ℕ) (at : ℕ) {p : ℕ} (e : p ≡ runEnd (ofClass blank) s at) where

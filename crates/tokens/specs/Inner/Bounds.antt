@@ -8,6 +8,9 @@ use Rattle.tokens.specs.declared.Token.{Token}
 use Rattle.tokens.specs.declared.Token.the-variants.{End, Open, Close, Comma, And, Or, Word, Fault}
 use Rattle.tokens.specs.declared.Next.{Next}
 use Rattle.tokens.specs.declared.Next.the-variants.{Off, To}
+use Rattle.tokens.specs.declared.Scanned.{Scanned}
+use Rattle.tokens.specs.declared.Scanned.the-variants.{Clean}
+use Rattle.tokens.specs.Token.{unless}
 
 -- where the text goes on after a token, if it begins with a byte of this class and is no word: a bracket, a comma or a sign
 unfoldable pub nextOfClass : ℕ → Token → Next
@@ -19,6 +22,10 @@ nextOfClass k (And p n) = cond (eqb k ampersand) (To n) Off
 nextOfClass k (Or p n) = cond (eqb k bar) (To n) Off
 nextOfClass k (Word p a b q n) = Off
 nextOfClass k (Fault f) = Off
+
+-- what the last token of a text says of it
+abbrev pub lastOf : Token → Scanned
+lastOf t = unless t Clean
 
 -- what the numbers of a token at or after `at`, in a text of `len` bytes, keep to; a fault is one of 4 to 6
 abbrev pub Lexed : ℕ → ℕ → Token → Type 0

@@ -12,7 +12,8 @@ use Rattle.refusals.specs.Refusals.{refusal, badImage, badStoreTable, twinName,
 use Rattle.rules.specs.Rule.{Rule, size}
 use Rattle.image.specs.Layout.{nodeCountIn}
 use Rattle.image.specs.Encode.{encode}
-use Rattle.image.specs.Decode.{isSome, cellAt, decode}
+use Rattle.image.specs.Decode.{cellAt, decode}
+use Rattle.image.specs.Inner.Valid.{isSome}
 use Rattle.image.proofs.Laws.FitLaws.{isSome-true, isSome-false}
 use Rattle.image.specs.Inner.Standing.{EncodedAt}
 use Rattle.grammar.specs.Reading.{Read, rule, refused, readOf}

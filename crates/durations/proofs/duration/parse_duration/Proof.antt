@@ -6,7 +6,8 @@ use native.Mathlib.Omega.{arith}
 use borrow.Author.Needs.{needs}
 use lib.ListN.{length, drop}
 use Rattle.slices.proofs.Laws.TextLaws.{end-within}
-use Rattle.durations.specs.Duration.{units, unitAt, partAt, plus, partsFrom, durationOf}
+use Rattle.durations.specs.Duration.{units, partAt, plus, partsFrom, durationOf}
+use Rattle.durations.specs.Inner.Units.{unitAt}
 use Rattle.durations.proofs.Laws.DurationLaws.{partMost, part-small, part-within, parts-start, parts-skip, parts-last, parts-on, parts-end}
 use Rattle.durations.specs.declared.duration.Part.{Part}
 use Rattle.durations.proofs.duration.parse_duration.Statement.{statement}

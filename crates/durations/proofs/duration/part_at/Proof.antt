@@ -8,7 +8,7 @@ use lib.Seq.{length-take-le}
 use Rattle.ascii.specs.Letters.{equal}
 use Rattle.slices.specs.Text.{part}
 use Rattle.slices.proofs.Laws.TextLaws.{end-within}
-use Rattle.durations.specs.Duration.{unitAt}
+use Rattle.durations.specs.Inner.Units.{unitAt}
 use Rattle.durations.proofs.Laws.DurationLaws.{amount-small, part-none, part-long, part-other, part-found}
 use Rattle.durations.proofs.duration.part_at.Statement.{statement}
 use Rattle.durations.proofs.duration.part_at.Tie as tie
