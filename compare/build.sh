@@ -12,7 +12,7 @@ COMPARE_OUT=$root/target/compare
 export APPENDFS_SRC COMPARE_OUT
 mkdir -p "$COMPARE_OUT"
 
-# RemoteMode, taken from the Rust's config.rs as it stands there, without the derives of serde and clap.
+# RemoteMode, taken unchanged from the Rust's config.rs, but without the derives of serde and clap.
 config=$APPENDFS_SRC/src/remote/config.rs
 {
     echo '#[derive(Debug, Clone, Copy, PartialEq, Eq, Default)]'

@@ -1,7 +1,7 @@
 /* Prune rules: reading, deciding, checking, judging, printing.
  *
  * Each call answers number * 2^32 + value. The number is 0 where the call is accepted, and the value is then as said below;
- * else the number is the refusal's (1 to 22) and the value its place. A refusal writes nothing. An accepted call that fills a
+ * otherwise the number is the refusal's (1 to 22) and the value its place. A refusal writes nothing. An accepted call that fills a
  * buffer changes nothing beyond the length that it answers. Lengths are in bytes; a pointer may be anything valid where its
  * length is 0, but not null. The buffers of one call must not overlap.
  */
@@ -20,8 +20,8 @@ extern "C" {
 
 /* Reads a rule's text into an image. Value: the image's length. Refusals: 1 to 15.
  * A duration is made of parts in w, d, h, m, s and ms, in this order, each at most once: 1 to 9 digits, then the unit. Blanks may
- * stand between parts and before a unit, and the duration is then quoted: older_than(2w), older_than("1w 12 h").
- * Where an expression is due, a quoted word names a store, whatever it spells and whatever follows: 'readable' is the store of that
+ * come between parts and before a unit, and the duration is then quoted: older_than(2w), older_than("1w 12 h").
+ * Where an expression is expected, a quoted word names a store, whatever it spells and whatever follows: 'readable' is the store of that
  * name, readable alone is readable(1), and 'any'(a) is refused at its bracket, with 9, or with 8 inside brackets or arguments. */
 uint64_t prune_read(const uint8_t *text, size_t text_len, uint8_t *image, size_t image_len);
 

@@ -3,7 +3,7 @@
 
 usage: python3 tools/cases.py
 
-`compare/make-list` prints cases with the Rust's own answers, in the same format, and `tools/list.py` makes the program's list of both:
+`compare/make-list` prints cases with the Rust's own answers, in the same format, and `tools/list.py` makes the program's list from both:
 the questions in crates/replay/stdin, and the answers in crates/replay/stdout.
 
 A case is a line. `read TEXT BUFFER ANSWER`: the text in hex (`-` where it is empty), the length of
@@ -14,9 +14,9 @@ the lent buffer, and either `no NUMBER PLACE` or `ok IMAGE`, the bytes written i
 stores in hex, and `pass` or `no NUMBER PLACE`. `print IMAGE BUFFER ANSWER`: the image in hex, the
 length of the lent buffer, and either `no NUMBER PLACE` or `ok TEXT`, the bytes written in hex (`-`
 where there are none). `report TEXT ARGUMENTS ok PAGE`: a text, stores as arguments with a 0 after
-each, and the page that `rulejudge` prints, all in hex. The answers, but for the pages, come from the small reader, decider, checker and printer below,
+each, and the page that `rulejudge` prints, all in hex. The answers, except for the pages, come from the small reader, decider, checker and printer below,
 which follow document 01 sentence by sentence. Where document 01 or the list of traps states an
-answer itself, they are held to it first. Where the table is small, a pass, a 21 and a 22 are held to
+answer itself, they are compared with it first. Where the table is small, a pass, a 21 and a 22 are compared with
 what the decisions for every confirmed list and the ages that matter show, by demand 3. Where a
 printed text can be read again, it must read as the rule that was printed, as far as a text tells
 rules apart. The list is the same bytes on every run.
@@ -33,7 +33,7 @@ LENGTH = 2048
 DEPTH = 64
 
 
-# Reading, as document 01 lays it down
+# Reading, as document 01 defines it
 
 
 class Refused(Exception):
@@ -98,7 +98,7 @@ UNITS = [(b'w', 604800000)] + PRINTED
 
 
 def duration(word, place):
-    """The milliseconds that a word is: parts of 1 to 9 digits, blanks or none (Job 1) and a unit, the units falling."""
+    """The milliseconds that a word is: parts of 1 to 9 digits, blanks or none (Job 1) and a unit, from larger units to smaller ones."""
     first, end = 0, len(word)
     while first < end and word[first] in BLANKS:
         first += 1
@@ -275,7 +275,7 @@ def read(text, room):
         return ('no', refused.number, refused.place)
 
 
-# Deciding, as document 01 lays it down
+# Deciding, as document 01 defines it
 
 NODES = 2048
 NAME_BYTES = 2048
@@ -298,7 +298,7 @@ def rule_of(data):
     names, used = data[4 + 12 * n:], 0
     if any(byte >= 128 for byte in names):
         raise broken
-    # The rules that stand without a parent yet, with their sizes.
+    # The rules that have no parent yet, with their sizes.
     standing = []
     for index in range(n):
         size, kind = divmod(number(data, 4 + 4 * index, 4), 256)
@@ -388,7 +388,7 @@ def decide(data, stores, age, confirmed_list):
         return 'no %d %d' % (refused.number, refused.place)
 
 
-# Checking and judging, as document 01 lays them down
+# Checking and judging, as document 01 defines them
 
 
 def in_order(rule):
@@ -397,7 +397,7 @@ def in_order(rule):
 
 
 def verdict(rule, stores):
-    """'pass', where none of 17, 18, 20, 21, 22 is due for a rule and a table; else the first of them."""
+    """'pass', where none of 17, 18, 20, 21, 22 applies to a rule and a table; else the first of them."""
     known = known_stores(stores)
     if not known:
         return 'pass'
@@ -429,11 +429,11 @@ def judge(text, stores):
         return 'no %d %d' % (refused.number, refused.place)
 
 
-# Printing, as document 01 lays it down
+# Printing, as document 01 defines it
 
 
 def printed_duration(span):
-    """The text of a duration: its nonzero parts, the units falling from days on, each part less than one of the unit before it."""
+    """The text of a duration: its nonzero parts, from days down to milliseconds, each part less than one of the unit before it."""
     parts = b''
     for unit, worth in PRINTED:
         many, span = divmod(span, worth)
@@ -443,7 +443,7 @@ def printed_duration(span):
 
 
 def printed(rule):
-    """The text of a rule: brackets only round an any directly under an all."""
+    """The text of a rule: brackets only around an any directly under an all."""
     kind, argument, children = rule
     if kind == NAMED:
         return argument
@@ -1478,7 +1478,7 @@ def combined_cases():
     for many in (1, 2, 3, 5):
         names = [b'abcde'[index:index + 1] for index in range(many)]
         for yes in range(many + 1):
-            # The children that say evict stand at the end, then at the front.
+            # The children that say evict are at the end, then at the front.
             for confirmed in (names[many - yes:], names[:yes]):
                 given = confirming(*confirmed)
                 for count_wanted in sorted({0, max(yes, 1) - 1, yes, yes + 1, many, many + 1, MOST}):
@@ -1866,7 +1866,7 @@ verdicts, held = {}, {}
 
 def shown(rule, stores):
     """What decisions show of a rule that names only stores of a small table, by demand 3: whether it evicts at some age on some
-    list without a readable store, over every set of stores and the ages about each duration; and where it does, 21 or 22."""
+    list without a readable store, over every set of stores and the ages around each duration; and where it does, 21 or 22."""
     data, known = image(rule), known_stores(stores)
     spans = [argument for kind, argument, _ in in_order(rule) if kind == OLDER]
     ages = {0, MOST} | {age for span in spans for age in (span - 1, span, span + 1) if 0 <= age <= MOST}
@@ -2073,7 +2073,7 @@ REFUSED = (
 
 
 def damaged():
-    """Images that break the layout, each in a way of its own."""
+    """Images that break the layout, each in its own way."""
     yes, base = (OLDER, 1, 0), of(MIXED)
     return (
         b'', b'\x00' * 4, base[:3], base[:4], base[:-1], base + b'\x00', packed([yes], n=0), packed([yes], n=2), packed([yes], m=1),
@@ -2087,7 +2087,7 @@ def damaged():
 
 
 def broken_tables():
-    """Tables that break the layout, each in a way of its own; some of them without a store, or with a name twice."""
+    """Tables that break the layout, each in its own way; some of them without a store, or with a name twice."""
     entries = [(0, b'nas'), (2, b''), (1, b'vault')]
     whole = table(*entries)
     found = [b'', b'\x00', b'\x00' * 3, b'\x00' * 5, table() + b'a', table(total=1), table(many=1), table(many=256), of(b'nas')]
@@ -2375,7 +2375,7 @@ def is_plain(rule):
 
 
 def most_open(text):
-    """How many brackets of a text stand open at once, at the most."""
+    """How many brackets of a text are open at once, at most."""
     opened, most = 0, 0
     for byte in text:
         opened += (byte == 40) - (byte == 41)
@@ -2384,7 +2384,7 @@ def most_open(text):
 
 
 def flat(rule):
-    """A rule as far as its text tells: an all or any of one child is that child, and one directly under its like is part of it."""
+    """A rule as far as its text tells: an all or any of one child is that child, and one directly under one of the same kind is part of it."""
     kind, argument, children = rule
     below = []
     for child in children:
@@ -2634,7 +2634,7 @@ def printed_damages():
     note('Images that break the layout, those of decide among them: 16 before 1')
     found = [line.split()[1] for line in out if line.startswith('decide ') and line.endswith(' no 16 0')]
     for data in [bytes.fromhex(word if word != '-' else '') for word in found] + list(damaged()):
-        # The largest stand in one case only, since they make long lines.
+        # The largest are in one case only, since they make long lines.
         for room in (0, NEED) if len(data) < 10000 else (0,):
             if print_case(data, room) != ('no', BAD_IMAGE, 0):
                 sys.exit('%.60r is an image' % data)
@@ -2736,7 +2736,7 @@ def main():
     for part in (sheet, stated_rows, orders, depths, word_cases, quoted_cases, count_cases, duration_cases, week_cases, list_cases, chain_cases,
                  single_bytes, pairs, lengths, rooms, random_cases):
         part()
-    # The deepest image has 2,048 nodes above each other.
+    # The deepest image has 2,048 nodes, each above the next.
     sys.setrecursionlimit(10000)
     note('decide IMAGE STORES AGE LIST: evict, keep, or no NUMBER PLACE; image, table and list in hex')
     for part in (decided_sheet, named_cases, older_cases, readable_cases, combined_cases, nested_cases,

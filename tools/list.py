@@ -4,7 +4,7 @@
 usage: python3 tools/list.py [--check]
 
 `tools/cases.py` prints cases with the documents' answers, and `compare/make-list`, which needs rustc and the Rust's source,
-prints cases with the Rust's own; none is the program's. Each line of theirs is a question and its answer (`split`), a comment,
+prints cases with the Rust's own; none is the program's. Each line of them is a question and its answer (`split`), a comment,
 or is refused. With --check nothing is written: the two files are compared with what would be, and the exit status is 1 where
 they differ. Both files are the same bytes on every run.
 """

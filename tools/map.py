@@ -6,13 +6,13 @@ usage: python3 tools/map.py [DOCUMENT_01 [DOCUMENT_02]]
 The documents are those given, else $DOCUMENT_01 and $DOCUMENT_02, else ../shared/01-scope.md and ../shared/02-change-requests.md
 beside the repository. Of document 02 the jobs count that have a page docs/landings/job-NN.md.
 
-A name stands in backticks. One with a slash is a file or a folder, below crates/ or the root, or a must-fail edit; one with
+A name is in backticks. One with a slash is a file or a folder, below crates/ or the root, or a must-fail edit; one with
 `::` is a function of a crate; any other is a definition, law, field, function, constant, type, edit or crate. What a row quotes
 from a document is no name. Prints each missing name with its line, then `N names, M missing`.
 
 A sentence ends at a full stop before a blank, or with its line; a row of a table is one sentence; headings and code are none.
-A row of docs/MAP.md quotes between straight double quotes in its first cell, and `..` stands for what it leaves out. A quote
-counts for a sentence only if all its pieces stand there, in their order. A sentence has its row if each of its letters and
+A row of docs/MAP.md quotes between straight double quotes in its first cell, and `..` marks what it leaves out. A quote
+counts for a sentence only if all its pieces are there, in their order. A sentence has its row if each of its letters and
 digits is in such a piece, of one row or of several; a piece of fewer than 8 characters counts only if it is the whole sentence.
 Prints each sentence that has none with its line, then of each document `N sentences, M without a row`.
 
@@ -34,7 +34,7 @@ CRATES = ROOT / 'crates'
 WORD = r'[^\s(){}\[\];,.:=]+'
 # How antt, Rattle and Rust declare a name.
 ANTT = re.compile(rf'^\s*(?:(?:abbrev|unfoldable|pub|data|record|mutual|module)\s+)*({WORD})(?=[\s({{:])', re.M)
-# Words in backticks that are the language's or a command's, or stand for any name.
+# Words in backticks that belong to the language or a command, or mean any name.
 PLAIN = {'requires', 'ensures', 'Laws', 'stdout', 'f', '..', 'rt staticlib prune'}
 CODE = re.compile(r'\b(?:fn|const|struct|enum|mod|trait|static)\s+(\w+)')
 # What is no sentence of a document: code, headings, the head of a table.
@@ -57,7 +57,7 @@ def declared():
 
 
 def stands(name):
-    """Whether a file, a folder or an edit stands at this path, or somewhere under this name where it has no folder."""
+    """Whether there is a file, a folder or an edit at this path, or anywhere under this name where it has no folder."""
     if (ROOT / name).exists():
         return True
     if '/' not in name:
@@ -89,7 +89,7 @@ def cells(line):
 
 
 def cited(line):
-    """The names that a line of the page cites: of a row of a table with a sentence, those behind the sentence."""
+    """The names that a line of the page cites: of a row of a table with a sentence, those after the sentence."""
     if line.startswith('|'):
         row = cells(line)
         line = ' '.join(row if row[0].strip().startswith('`') else row[1:])
@@ -130,7 +130,7 @@ def sentences(text):
 
 
 def spans(pieces, sentence):
-    """Where the pieces of a quote stand in a sentence, one behind the other; nothing where one is missing."""
+    """Where the pieces of a quote are in a sentence, one after another; nothing where one is missing."""
     at, places = 0, []
     for piece in pieces:
         start = sentence.find(piece, at)
@@ -142,7 +142,7 @@ def spans(pieces, sentence):
 
 
 def quotes(page, known):
-    """What the rows quote, as pieces. A quote may hold marks itself: it goes on to the last mark up to which it is one."""
+    """What the rows quote, as pieces. A quote may hold marks itself: it extends to the last mark up to which it is one."""
     for line in page:
         first = plain(cells(line)[0]) if line.startswith('|') else ''
         marks = [at for at, sign in enumerate(first) if sign == '"']

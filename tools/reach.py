@@ -3,9 +3,9 @@
 
 usage: python3 tools/reach.py
 
-A contract cites definitions of modules; a module imports others. All that is reached so must stand in the folder `specs` of
-some crate, and no file may stand there that is not reached: what inner functions promise each other is in `specs/Inner`, laws
-are in `proofs/Laws`. docs/MAP.md must list just these files, in its reading order. Prints each file with its lines, then
+A contract cites definitions of modules; a module imports others. All that is reached in this way must be in the folder `specs` of
+some crate, and no file may be there that is not reached: what inner functions promise each other is in `specs/Inner`, laws
+are in `proofs/Laws`. docs/MAP.md must list exactly these files, in its reading order. Prints each file with its lines, then
 `N files, M lines, K wrong`. The exit status is 1 if something is wrong.
 """
 import pathlib
@@ -14,7 +14,7 @@ import sys
 
 ROOT = pathlib.Path(__file__).resolve().parent.parent
 CRATES = ROOT / 'crates'
-# Where each entry point is declared; `*` stands for every function of the crate.
+# Where each entry point is declared; `*` means every function of the crate.
 ENTRY_POINTS = {
     'read': ['read'], 'decide': ['decide'], 'safety': ['validate_safety'], 'judge': ['judge'], 'print': ['print'],
     'prune': ['prune_read', 'prune_decide', 'prune_check', 'prune_judge', 'prune_print'],

@@ -1,12 +1,12 @@
 #!/usr/bin/env python3
-"""Runs what README.md quotes, and says where the output is another one.
+"""Runs what README.md quotes, and says where the output differs.
 
 usage: python3 tools/readme.py
 
 Runs each command line `$ ./judge ..` and compares what it prints with the lines quoted below it. Writes the Rust and the C program
 into target/example, runs the commands that README gives to build and run them, and compares what each prints with the block
-behind it. Needs the Rattle kit, rustc and cc on the PATH. Prints each output that differs, then `N outputs, M different`; the
-exit status is 1 if one differs, or if not both a command and a program were found.
+after it. Needs the Rattle kit, rustc and cc on the PATH. Prints each output that differs, then `N outputs, M different`; the
+exit status is 1 if one differs, or if no command or no program was found.
 """
 import pathlib
 import re
@@ -33,13 +33,13 @@ def judged():
 
 
 def programs():
-    """The two programs: file, source, and what README says that it prints."""
+    """The two programs: file, source, and what each prints according to README."""
     pattern = r'`([\w.]+)`, which[^\n]*\n+```\w+\n(.*?)^```\n+prints\n+```\n(.*?)^```'
     return re.findall(pattern, README, re.M | re.S)
 
 
 def build():
-    """The commands by which README builds and runs the programs."""
+    """The commands with which README builds and runs the programs."""
     block = re.search(r'^    rt staticlib prune\n(?:    .*\n)+', README, re.M)
     return [line[4:] for line in block[0].splitlines()]
 

@@ -55,7 +55,7 @@ const JUDGE: Budget = Budget { owed: 0.40, goal: 0.30 };
 const DECIDE: Budget = Budget { owed: 0.60, goal: 0.50 };
 const DECIDE_LARGE: Budget = Budget { owed: 0.60, goal: 0.30 };
 
-/// One side of a workload: makes so many calls.
+/// One side of a workload: makes that many calls.
 type Side<'a> = Box<dyn FnMut(u64) + 'a>;
 
 /// A call with given inputs, on both sides; without a budget nothing is owed.
@@ -66,7 +66,7 @@ struct Workload<'a> {
     port: Side<'a>,
 }
 
-/// A call as a side: its loop stands beside it, so that only a whole sample goes through the pointer. Answers are freed here.
+/// A call as a side: its loop is beside it, so that only a whole sample goes through the pointer. Answers are freed here.
 fn repeated<'a, T>(mut call: impl FnMut() -> T + 'a) -> Side<'a> {
     Box::new(move |count| {
         for _ in 0..count {
@@ -130,7 +130,7 @@ impl Stores {
         Self { known: entries.iter().map(known).collect(), bytes: layout::table(entries) }
     }
 
-    /// So many stores whose names share a beginning, every fourth write-only.
+    /// That many stores whose names share a beginning, every fourth write-only.
     fn many(count: usize) -> Self {
         let names: Vec<String> = (1..=count).map(|index| format!("store-{index:02}")).collect();
         let entries: Vec<(u8, &str)> =
@@ -265,7 +265,7 @@ fn calls(side: &mut Side) -> u64 {
     }
 }
 
-/// One sample of so many calls: nanoseconds a call.
+/// One sample of that many calls: nanoseconds a call.
 fn sampled(side: &mut Side, count: u64) -> f64 {
     let start = Instant::now();
     side(count);
@@ -279,7 +279,7 @@ fn quartiles(values: impl Iterator<Item = f64>) -> [f64; 3] {
     [1, 2, 3].map(|part| sorted[(sorted.len() - 1) * part / 4])
 }
 
-/// Measures a workload and prints its line. Whether its median is above what is owed.
+/// Measures a workload and prints its line. Answers whether its median is above what is owed.
 fn line(workload: &mut Workload, share: Duration) -> bool {
     let pairs = measured(workload, share);
     let (rust, port) = (quartiles(pairs.iter().map(|pair| pair.0))[1], quartiles(pairs.iter().map(|pair| pair.1))[1]);

@@ -7,7 +7,7 @@ use crate::sequences::Tables;
 use crate::tally::Tally;
 use std::time::Duration;
 
-/// The middle repeated between two ends and cut so that the text has just that length.
+/// The middle repeated between two ends and cut so that the text has exactly that length.
 fn filled(before: &str, middle: &str, after: &str, length: usize) -> Vec<u8> {
     let room = length.saturating_sub(before.len() + after.len());
     let mut text = before.as_bytes().to_vec();
@@ -16,7 +16,7 @@ fn filled(before: &str, middle: &str, after: &str, length: usize) -> Vec<u8> {
     text
 }
 
-/// Texts of every make, 2,046 to 2,050 bytes long and of other lengths that matter.
+/// Texts of every sort, 2,046 to 2,050 bytes long and of other lengths that matter.
 fn lengths(compare: &mut dyn FnMut(&[u8])) {
     let makes = [
         ("", " ", ""),
@@ -207,7 +207,7 @@ fn numbers(compare: &mut dyn FnMut(&[u8])) {
     }
 }
 
-/// Reads into buffers of every length about the one that is needed.
+/// Reads into buffers of every length around the one that is needed.
 fn rooms(tally: &mut dyn Tally) {
     let texts: [&[u8]; 8] =
         [b"a", b"", b"&", b"a &", b"\x80", b"nas && readable(1)", &[b' '; 2049], &filled("", "a||", "a", 2047)];
@@ -254,7 +254,7 @@ fn large_rules() -> Vec<PruneExpr> {
     rules
 }
 
-/// Tables and lists of 0, 1, 63, 64 and 65 entries with names of every length, and the bytes about them.
+/// Tables and lists of 0, 1, 63, 64 and 65 entries with names of every length, and the bytes around them.
 fn tables(tally: &mut dyn Tally) {
     let rule = PruneExpr::Any(vec![
         PruneExpr::Remote("n".repeat(255)),

@@ -1,4 +1,4 @@
-//! The comparison itself: each call made on lent memory, its answer and every lent byte held to what is due, all counted.
+//! The comparison itself: each call made on lent memory, its answer and every lent byte compared with what is expected, all counted.
 
 use crate::lent::{Input, Output};
 use crate::oracle::{self, List, No, Stores};
@@ -26,7 +26,7 @@ const SHOWN: u64 = 10;
 /// An answer: a value or a refusal.
 type Answer = Result<usize, No>;
 
-/// The answer due, the port's, and whether all lent bytes are as they should be.
+/// The expected answer, the port's, and whether all lent bytes are as they should be.
 type Compared = (Answer, Answer, bool);
 
 /// Counts, and the memory that calls are lent.
@@ -48,7 +48,7 @@ pub struct Comparison {
 }
 
 impl Comparison {
-    /// Nothing compared yet; random parts go on until `end`.
+    /// Nothing compared yet; random parts continue until `end`.
     pub fn new(plant: Plant, end: Duration) -> Self {
         Self {
             compared: 0,
@@ -73,7 +73,7 @@ impl Comparison {
         self.start.elapsed() < self.end
     }
 
-    /// Counts a call, and reports it where the answer or the lent bytes are not those due. `extra` is the age or the buffer's
+    /// Counts a call, and reports it where the answer or the lent bytes are not those expected. `extra` is the age or the buffer's
     /// length, `written` what the buffer should hold.
     fn settle(&mut self, call: usize, inputs: &[(&str, &[u8])], extra: &str, number: u64, written: &[u8], answers: Compared) {
         let (expected, got, bytes) = answers;
@@ -90,7 +90,7 @@ impl Comparison {
         }
     }
 
-    /// Counts a verdict that is held to what decisions show, and reports it where it is another.
+    /// Counts a verdict that is held to what decisions show, and reports it where it is a different one.
     pub fn held(&mut self, text: &[u8], stores: &Stores, due: u8, verdict: u8) {
         let note = format!("the decisions show {due}, judge answers {verdict}");
         self.held[usize::from(due)] += 1;
@@ -160,7 +160,7 @@ impl Tally for Comparison {
         }
     }
 
-    /// Counts a text, and whether it is one that Job 2 lists; then the Rust's answer must be another one than Job 2's.
+    /// Counts a text, and whether it is one that Job 2 lists; then the Rust's answer must differ from Job 2's.
     fn given(&mut self, text: &[u8]) {
         self.texts += 1;
         if quoted::listed(text).is_some() {

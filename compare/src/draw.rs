@@ -85,7 +85,7 @@ fn span(draw: &mut Draw, any: bool) -> u64 {
     }
 }
 
-/// A rule of at most that depth. `any` allows names and durations that no text has bare.
+/// A rule of at most that depth. `any` allows names and durations that no text has unquoted.
 pub fn rule(draw: &mut Draw, depth: usize, any: bool) -> PruneExpr {
     if depth == 0 || draw.once_in(3) {
         return match draw.below(6) {
@@ -108,7 +108,7 @@ fn blanks(draw: &mut Draw, text: &mut String) {
     text.push_str(draw.of(&["", "", "", " ", " ", "\t", "\n ", "\r\n", "\x0b\x0c", "   "]));
 }
 
-/// A function's name, at times in other letters, seldom in quotes, in which it names a store.
+/// A function's name, at times in other letters, seldom in quotes, where it names a store.
 fn word(draw: &mut Draw, spelled: &str, text: &mut String) {
     let folded: String = spelled.chars().map(|c| if draw.once_in(8) { c.to_ascii_uppercase() } else { c }).collect();
     match draw.below(80) {
@@ -118,7 +118,7 @@ fn word(draw: &mut Draw, spelled: &str, text: &mut String) {
     }
 }
 
-/// A duration in one of its spellings: at times with weeks, at times in quotes with blanks round its numbers and units.
+/// A duration in one of its spellings: at times with weeks, at times in quotes with blanks around its numbers and units.
 fn spelled(draw: &mut Draw, span: Duration) -> String {
     let (weeks, rest) = (span.as_millis() as u64 / WEEK, Duration::from_millis(span.as_millis() as u64 % WEEK));
     let plain = match weeks {
@@ -143,7 +143,7 @@ fn spelled(draw: &mut Draw, span: Duration) -> String {
     quoted + "'"
 }
 
-/// Writes a rule in one of its spellings: blanks, quotes, signs or functions, brackets that need not be. Where the name of a
+/// Writes a rule in one of its spellings: blanks, quotes, signs or functions, unneeded brackets. Where the name of a
 /// function is quoted, it is another rule or none.
 pub fn spell(draw: &mut Draw, rule: &PruneExpr, text: &mut String) {
     let brackets = usize::from(draw.once_in(6)) * (1 + draw.below(2));
@@ -255,7 +255,7 @@ pub fn edit_text(draw: &mut Draw, text: &mut Vec<u8>) {
     text.splice(at..at + out, piece.iter().copied());
 }
 
-/// Edits the bytes of an image, a table or a list: a bit turned, a byte set, put in or taken out, two exchanged, the end cut or
+/// Edits the bytes of an image, a table or a list: a bit flipped, a byte set, put in or taken out, two exchanged, the end cut or
 /// made longer.
 pub fn edit_bytes(draw: &mut Draw, bytes: &mut Vec<u8>) {
     let some = draw.of(&[0, 1, 2, 3, 4, 5, 6, 64, 65, 127, 128, 255]);
@@ -303,7 +303,7 @@ pub fn edit_image(draw: &mut Draw, bytes: &mut [u8]) {
     field.copy_from_slice(&value.to_le_bytes()[..size]);
 }
 
-/// A table of up to `most` stores with those modes at most, or a list. Names are seldom alike unless `twins`.
+/// A table of up to `most` stores with those modes at most, or a list. Names are seldom the same unless `twins`.
 pub fn table(draw: &mut Draw, most: usize, mode: usize, twins: bool) -> Vec<u8> {
     let many = if draw.once_in(8) { most } else { draw.below(most + 1) };
     let mut names: Vec<String> = Vec::new();

@@ -53,7 +53,7 @@ fn number(bytes: &[u8], at: usize, size: usize) -> Option<u64> {
     Some(part.iter().rev().fold(0, |sum, &byte| sum * 256 + u64::from(byte)))
 }
 
-/// The rule of the node at an index, however its bytes are made; `n` nodes stand in the image.
+/// The rule of the node at an index, whatever its bytes are; the image has `n` nodes.
 fn node(bytes: &[u8], n: usize, index: usize) -> Option<PruneExpr> {
     let tag = number(bytes, 4 + 4 * index, 4)?;
     let argument = number(bytes, 4 + 4 * n + 8 * index, 8)?;

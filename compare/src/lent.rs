@@ -3,12 +3,12 @@
 /// Guard bytes on each side.
 const GUARD: usize = 32;
 
-/// The byte that stands at a position before a call: no two neighbours alike, no short period.
+/// The byte at a position before a call: no two neighbours are the same, and there is no short period.
 fn pattern(at: usize) -> u8 {
     (at.wrapping_mul(0x9e37_79b9) >> 11) as u8 ^ 0xa5
 }
 
-/// Bytes that a call may only read. They stand at changing alignments.
+/// Bytes that a call may only read. Their alignment changes from call to call.
 pub struct Input {
     memory: Vec<u8>,
     start: usize,
@@ -63,12 +63,12 @@ impl Output {
         &mut self.memory[GUARD..GUARD + room]
     }
 
-    /// The first bytes of the buffer as they stand.
+    /// The first bytes of the buffer as they are now.
     pub fn first(&self, size: usize) -> Vec<u8> {
         self.memory[GUARD..GUARD + size].to_vec()
     }
 
-    /// Whether a buffer of that length now holds just the bytes written and else, guards included, what it held before.
+    /// Whether a buffer of that length now holds exactly the bytes written and everywhere else, guards included, what it held before.
     pub fn holds(&self, room: usize, written: &[u8]) -> bool {
         let (end, last) = (GUARD + written.len(), GUARD + room + GUARD);
         written.len() <= room

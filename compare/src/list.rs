@@ -3,7 +3,7 @@
 //!
 //! Numbers, trees, decisions, verdicts and printed bytes are `policy.rs`'s, durations by the documents' rule (`reference.rs`). It
 //! has no places; those are found as `oracle.rs` says. What the Rust has no answer to (1, 2, 3 and 15 to 19) stays out, and so do
-//! the texts that document 02's Job 2 lists, on which its answers are no longer due (`quoted.rs`). Of each call, part and answer an
+//! the texts that document 02's Job 2 lists, for which its answers no longer apply (`quoted.rs`). Of each call, part and answer an
 //! even sample is kept, of long lines fewer.
 #![forbid(unsafe_code)]
 
@@ -28,7 +28,7 @@ use std::collections::{BTreeMap, HashSet};
 use std::io::Write;
 use tally::Tally;
 
-/// What the drawn inputs are drawn by, and how many rounds of them.
+/// The seed of the drawn inputs, and how many rounds of them.
 const SEED: u64 = 1;
 const ROUNDS: usize = 6;
 

@@ -1,6 +1,6 @@
-//! The answers that are due: the Rust's own wherever it has one, document 01's rule where the text, the image or a table lies
+//! The expected answers: the Rust's own wherever it has one, document 01's rule where the text, the image or a table lies
 //! outside what the Rust knows, document 02's on the texts that Job 2 lists (`quoted.rs`). An error string becomes its number. The
-//! place of a parse refusal is found without a parser: the token that decides is the last of the shortest part of the text, cut
+//! place of a parse refusal is found without a parser: the token that decides is the last of the shortest beginning of the text, cut
 //! after a token, on which the Rust gives the same error.
 
 use crate::layout;
@@ -77,7 +77,7 @@ pub fn spans(text: &[u8]) -> Result<Vec<Span>, usize> {
     Ok(found)
 }
 
-/// The bracket that opens while 64 stand open, if the text has one: its index among the tokens.
+/// The bracket that opens while 64 are open, if the text has one: its index among the tokens.
 fn too_deep(tokens: &[Span]) -> Option<usize> {
     let mut open = 0;
     for (index, token) in tokens.iter().enumerate() {
@@ -166,7 +166,7 @@ pub fn read_by_rust(text: &[u8]) -> Result<PruneExpr, No> {
         Err(error) => {
             let (number, at) = (number(&error), deciding(text, &tokens, &error));
             match deep {
-                // A bracket that is found where none may stand is not opened; an unknown function's is.
+                // A bracket found where none is allowed is not opened; an unknown function's is.
                 Some(index) if index < at || index == at && number == 10 => Err((15, place(index))),
                 _ => Err((number, place(at - before(number, &error)))),
             }
@@ -174,7 +174,7 @@ pub fn read_by_rust(text: &[u8]) -> Result<PruneExpr, No> {
     }
 }
 
-/// How many tokens the place of a refusal stands before the token that decides it.
+/// How many tokens the place of a refusal is before the token that decides it.
 fn before(number: u8, error: &str) -> usize {
     match number {
         10 | 13 => 1,
@@ -184,14 +184,14 @@ fn before(number: u8, error: &str) -> usize {
     }
 }
 
-/// A table of stores: its bytes, and its stores or the refusal that is due.
+/// A table of stores: its bytes, and its stores or the refusal that is expected.
 pub struct Stores {
     pub bytes: Vec<u8>,
     pub known: Result<Vec<ConfiguredRemote>, No>,
 }
 
 impl Stores {
-    /// The table that these bytes are. Of twins, the first store whose name an earlier one has is named.
+    /// The table that these bytes are. With twins, the refusal names the first store whose name an earlier one has.
     pub fn of(bytes: Vec<u8>) -> Self {
         let known = match layout::entries(&bytes, 2) {
             None => Err((17, 0)),

@@ -11,7 +11,7 @@ use std::borrow::Cow;
 pub enum Plant {
     /// None: the port as it is.
     None,
-    /// The place of a quoted word is the byte behind its mark.
+    /// The place of a quoted word is the byte after its mark.
     Read,
     /// An age that equals a duration is too young.
     Decide,
@@ -19,7 +19,7 @@ pub enum Plant {
     Check,
     /// A duration of zero prints as `0d`.
     Print,
-    /// Reading clears one byte behind an image of three nodes or more; a short buffer's first byte is cleared by printing.
+    /// Reading clears one byte after an image of three nodes or more; a short buffer's first byte is cleared by printing.
     Buffer,
     /// A week is six days, where the rule is one duration.
     Week,
@@ -172,7 +172,7 @@ fn unmarked(mut text: Vec<u8>, &place: &usize) -> Vec<u8> {
     text
 }
 
-/// The text with marks round a `readable` that ends it.
+/// The text with marks around a `readable` that ends it.
 fn marked(text: &[u8]) -> Vec<u8> {
     match text.strip_suffix(b" readable") {
         Some(start) => [start, b" 'readable'"].concat(),

@@ -2,7 +2,7 @@
 //! `rustc main.rs -L native=target/staticlib -l static=prune`; it needs nothing else
 //! (Rust 1.82 or later).
 //!
-//! Each call either is accepted or refuses with a number (1 to 22, the table of document 01) and a place. A refusal writes
+//! Each call is either accepted or refused with a number (1 to 22, the table of document 01) and a place. A refusal writes
 //! nothing. An accepted call that fills a buffer changes nothing beyond the length that it answers.
 
 /// A buffer of this length holds the image of every text that reads.

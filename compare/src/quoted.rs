@@ -5,9 +5,9 @@
 use crate::clock;
 use crate::oracle::{self, No, Span};
 
-/// How a text is one of those.
+/// Why a text is one of those.
 pub enum Listed {
-    /// A quoted word stands before a bracket where an expression is due: the refusal of the bracket.
+    /// A quoted word comes before a bracket where an expression is expected: the refusal of the bracket.
     Bracket(No),
     /// The text is a rule in which these quoted words, each given by its place, spell `readable`.
     Names(Vec<usize>),
@@ -24,7 +24,7 @@ enum Sort {
     Unquoted,
 }
 
-/// What a call's name makes of what stands before its first expression.
+/// What a call's name expects before its first expression.
 enum Call {
     /// A word, which is its argument, and the closing bracket.
     Test(fn(&str) -> bool),
@@ -39,7 +39,7 @@ struct Walk<'a> {
     text: &'a str,
     tokens: &'a [Span],
     at: usize,
-    /// For each bracket that stands open, whether commas may stand in it.
+    /// For each bracket that is open, whether commas may come in it.
     open: Vec<bool>,
 }
 
@@ -94,15 +94,15 @@ impl Walk<'_> {
         self.tokens[self.at + further].1
     }
 
-    /// Opens a bracket; none where 64 stand open.
+    /// Opens a bracket; none where 64 are open.
     fn opens(&mut self, list: bool) -> Option<()> {
         (self.open.len() < 64).then(|| self.open.push(list))
     }
 
-    /// Goes past a call's name and all that stands before its first expression; answers whether one is due. None where it is
+    /// Goes past a call's name and all that comes before its first expression; answers whether one is expected. None where it is
     /// refused.
     fn call(&mut self) -> Option<bool> {
-        // A bracket opens, which is one too many where 64 stand open.
+        // A bracket opens, which is one too many where 64 are open.
         self.opens(true)?;
         match call_of(self.word(0)?)? {
             Call::Test(is_argument) => {
@@ -123,7 +123,7 @@ impl Walk<'_> {
         }
     }
 
-    /// Goes past what begins where an expression is due; answers whether one is due then. None where it is refused.
+    /// Goes past what begins where an expression is expected; answers whether one is expected next. None where it is refused.
     fn begins(&mut self) -> Option<bool> {
         match self.sort(0)? {
             Sort::Open => {
@@ -140,7 +140,7 @@ impl Walk<'_> {
         }
     }
 
-    /// Goes past what follows an expression; answers whether one is due then. None where it is refused.
+    /// Goes past what follows an expression; answers whether one is expected next. None where it is refused.
     fn follows(&mut self) -> Option<bool> {
         let due = match self.sort(0)? {
             Sort::Sign => true,
@@ -156,7 +156,7 @@ impl Walk<'_> {
     }
 }
 
-/// How the text is one of those that Job 2 lists, if it is.
+/// Why the text is one of those that Job 2 lists, if it is.
 pub fn listed(text: &[u8]) -> Option<Listed> {
     if text.len() > 2048 || !text.is_ascii() {
         return None;

@@ -88,7 +88,7 @@ fn wide(draw: &mut Draw, mut text: String) -> String {
     text + &")".repeat(open)
 }
 
-/// Texts about the longest and the deepest, then edited once.
+/// Texts near the longest and the deepest, then edited once.
 fn bounds(tally: &mut dyn Tally, draw: &mut Draw, given: &Given) {
     tally.part("drawn at the boundaries");
     for way in 0..12 {
@@ -174,7 +174,7 @@ fn tables(tally: &mut dyn Tally, draw: &mut Draw) {
     }
 }
 
-/// A drawn rule most of whose names stand in the table or on the list.
+/// A drawn rule most of whose names are in the table or on the list.
 fn over(draw: &mut Draw, stores: &Stores, list: &List) -> PruneExpr {
     let mut names: Vec<&str> = Vec::new();
     if let Ok(known) = &stores.known {

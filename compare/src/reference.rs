@@ -1,7 +1,7 @@
-//! The Rust's side: `policy.rs` as it stands, from APPENDFS_SRC, among the modules that it names. serde's traits are empty
-//! stand-ins, a store has a name and a mode only, and durations follow the documents' rule (`clock`, below) in jiff's stead.
+//! The Rust's side: `policy.rs`, unchanged, from APPENDFS_SRC, among the modules that it names. serde's traits are empty
+//! substitutes, a store has only a name and a mode, and durations follow the documents' rule (`clock`, below) in place of jiff.
 
-/// Stand-ins for the traits of serde that `policy.rs` implements; nothing here calls them.
+/// Substitutes for the traits of serde that `policy.rs` implements; nothing here calls them.
 #[allow(dead_code)]
 pub mod serde {
     pub mod de {
@@ -35,7 +35,7 @@ pub mod serde {
 pub mod clock {
     use std::time::Duration;
 
-    /// The units in the order in which they fall, and the milliseconds of each. Weeks are read, and not printed.
+    /// The units, from the largest to the smallest, and the milliseconds of each. Weeks are read but not printed.
     const UNITS: [(&str, u64); 6] =
         [("w", 604_800_000), ("d", 86_400_000), ("h", 3_600_000), ("m", 60_000), ("s", 1_000), ("ms", 1)];
 
@@ -44,7 +44,7 @@ pub mod clock {
         matches!(c, '\t'..='\r' | ' ')
     }
 
-    /// One or more parts with optional blanks round them: 1 to 9 digits, optional blanks and a unit each, the units falling.
+    /// One or more parts with optional blanks around them: 1 to 9 digits, optional blanks and a unit each, from larger units to smaller ones.
     pub fn parse_duration(s: &str) -> Result<Duration, String> {
         let fault = || Err(format!("'{s}' is no duration"));
         let mut rest = s.trim_matches(is_blank);

@@ -4,7 +4,7 @@ use crate::layout;
 use crate::oracle::{List, Stores};
 use crate::tally::Tally;
 
-/// Tokens whose sequences up to the full length all stand; they reach 4 to 14.
+/// Tokens of which all sequences up to the full length are made; they reach 4 to 14.
 const TOKENS: [&str; 19] = [
     "(",
     ")",
@@ -27,7 +27,7 @@ const TOKENS: [&str; 19] = [
     "#",
 ];
 
-/// Tokens that stand in sequences up to one less than the full length. Long ones and a foreign byte, made below, reach 2, 3
+/// Tokens used in sequences up to one less than the full length. Long ones and a foreign byte, made below, reach 2, 3
 /// and 15 in sequences up to two less.
 const MORE: [&str; 7] = ["'1w 2 ms'", "'+1'", "\"", "|", "x.", "'Readable'", "\"any\""];
 
@@ -43,7 +43,7 @@ const BYTES: &[u8; 20] = b"(),&|'\"ab1d+# \t_-\x00\x7f\x80";
 /// The bytes of the shortest durations.
 const DURATION: &[u8; 6] = b"1wdms ";
 
-/// Whether a byte can stand in a word.
+/// Whether a byte can be part of a word.
 fn in_word(byte: Option<&u8>) -> bool {
     byte.is_some_and(|byte| byte.is_ascii_alphanumeric() || b"_-.".contains(byte))
 }

@@ -10,10 +10,10 @@ use crate::oracle::{self, List, No, Stores};
 use crate::remote::policy::PruneExpr;
 use crate::tally::{self, Tally};
 
-/// The stores' names; a table has the first so many.
+/// The stores' names; a table has the first of them, as many as it has modes.
 const NAMES: [&str; 3] = ["a", "b", "c"];
 
-/// A table with the modes that it was made of.
+/// A table with the modes that it was made from.
 struct Modes {
     modes: Vec<u8>,
     stores: Stores,
@@ -32,7 +32,7 @@ fn all_tables() -> Vec<Modes> {
     found
 }
 
-/// The list of each set of the three names; bit i stands for name i.
+/// The list of each set of the three names; bit i represents name i.
 fn all_lists() -> Vec<List> {
     let entries = |set: usize| (0..3).filter(move |at| set >> at & 1 == 1).map(|at| (0, NAMES[at])).collect::<Vec<_>>();
     (0..8).map(|set| List::of(layout::table(&entries(set)))).collect()
@@ -91,7 +91,7 @@ fn rename(draw: &mut Draw, rule: &mut PruneExpr) {
     }
 }
 
-/// Whether a rule names only the first so many stores.
+/// Whether a rule names none but the first `many` stores.
 fn knows(rule: &PruneExpr, many: usize) -> bool {
     match rule {
         PruneExpr::Remote(name) => NAMES[..many].contains(&name.as_str()),

@@ -113,7 +113,7 @@ const VERDICTS: [(&str, u8); 8] = [
     ("older_than(0s) || attic", 20),
 ];
 
-/// Holds the answers due to those stated, and the port to both.
+/// Compares the expected answers with those stated, and the port with both.
 pub fn all(tally: &mut dyn Tally, stores: &[Stores], lists: &[List]) {
     tally.part("stated answers");
     for (text, n, m, printed) in READ {

@@ -4,7 +4,7 @@ use crate::layout;
 use crate::oracle::{self, List, No, Stores};
 use crate::remote::policy::PruneExpr;
 
-/// Takes the inputs of calls, with the answers that are due or what they follow from.
+/// Takes the inputs of calls, with the expected answers or what they follow from.
 pub trait Tally {
     /// What follows belongs to the part of that name.
     fn part(&mut self, name: &'static str);
@@ -15,10 +15,10 @@ pub trait Tally {
     /// A text that is to be read and judged.
     fn given(&mut self, text: &[u8]);
 
-    /// A text to be read into a buffer of that length; due is its image or a refusal.
+    /// A text to be read into a buffer of that length; `due` is the expected image or refusal.
     fn read(&mut self, text: &[u8], room: usize, due: &Result<Vec<u8>, No>);
 
-    /// An image to be printed into a buffer of that length; due is its text, none where the bytes are no image.
+    /// An image to be printed into a buffer of that length; `due` is the expected text, none where the bytes are no image.
     fn print(&mut self, image: &[u8], room: usize, due: Option<&str>);
 
     /// An image to be decided on, and the rule whose image it is, if any. Answers the decision.
@@ -53,7 +53,7 @@ pub trait Tally {
         }
     }
 
-    /// An image to be printed into buffers about the text's length.
+    /// An image to be printed into buffers of about the text's length.
     fn printing(&mut self, image: &[u8], rule: Option<&PruneExpr>, turn: u64) {
         let text = rule.map(PruneExpr::to_string);
         let size = text.as_ref().map_or(7, String::len);

@@ -1,4 +1,4 @@
-//! Bytes that are exhausted: every small make of an image, and every byte of some images, tables and lists at every value.
+//! Bytes that are exhausted: every small image, and every byte of some images, tables and lists at every value.
 
 use crate::layout;
 use crate::oracle::{self, List, Stores};

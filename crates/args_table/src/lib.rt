@@ -16,7 +16,7 @@ use store_table::COUNT_START;
 use store_table::MODES_START;
 use store_table::TOTAL_START;
 
-// Puts the mode, the length of the name and the name of the store that an argument gives behind those of k stores.
+// Writes the mode, the length of the name and the name of the store that an argument gives, after those of k stores.
 fn fill_one(
     arg: &[u8],
     k: usize,
@@ -65,7 +65,7 @@ fn fill(args: &[u8], modes: &mut [u8], lengths: &mut [u8], names: &mut [u8]) -> 
     Filled::Stores { count: k, used }
 }
 
-// Makes the table of the stores that are given, at most 64 of them.
+// Makes the table of the stores that the arguments give, at most 64 of them.
 pub fn table_of(args: &[u8], table: &mut [u8]) -> Made
     requires { ⌜ (length (split (now args)) ≤ 64) × (16_452 ≤ length (now table)) ⌝ }
     ensures { λ r. ⌜ MadeOf (storesIn (now (args .entry))) (now (table .exit)) r ⌝ }

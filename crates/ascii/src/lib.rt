@@ -2,7 +2,7 @@
 ghost use mathlib.Core.Path.{_≡_};
 ghost use Rattle.ascii.specs.Letters.{isDigit, lower, foldedIf, equalBy, equal, equalIgnoringCase};
 
-// The byte is a decimal digit.
+// Whether the byte is a decimal digit.
 pub fn is_digit(b: u8) -> bool
     ensures { λ r. ⌜ r ≡ isDigit b ⌝ }
 {
@@ -24,14 +24,14 @@ pub fn to_lower(b: u8) -> u8
     b
 }
 
-// A byte as two strings are compared by it: in lower case where case is ignored.
+// A byte as it is compared: in lower case where case is ignored.
 fn folded(b: u8, ignore_case: bool) -> u8
     ensures { λ r. ⌜ r ≡ foldedIf «ignore_case» b ⌝ }
 {
     if ignore_case { to_lower(b) } else { b }
 }
 
-// The two have the same bytes, compared as `folded` has them.
+// Whether the two have the same bytes, each as `folded` gives it.
 fn eq_folded(a: &[u8], b: &[u8], ignore_case: bool) -> bool
     ensures { λ r. ⌜ r ≡ equalBy (foldedIf «ignore_case») (now (a .entry)) (now (b .entry)) ⌝ }
 {
@@ -48,14 +48,14 @@ fn eq_folded(a: &[u8], b: &[u8], ignore_case: bool) -> bool
     true
 }
 
-// The two are the same bytes.
+// Whether the two are the same bytes.
 pub fn eq(a: &[u8], b: &[u8]) -> bool
     ensures { λ r. ⌜ r ≡ equal (now (a .entry)) (now (b .entry)) ⌝ }
 {
     eq_folded(a, b, false)
 }
 
-// The two are the same bytes, but for the case of letters.
+// Whether the two are the same bytes but for the case of letters.
 pub fn eq_ignore_ascii_case(a: &[u8], b: &[u8]) -> bool
     ensures { λ r. ⌜ r ≡ equalIgnoringCase (now (a .entry)) (now (b .entry)) ⌝ }
 {

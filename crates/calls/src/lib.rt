@@ -1,4 +1,4 @@
-// Calls: what is between a function's brackets, up to its closing bracket or its list.
+// Calls: what follows a function's opening bracket, up to its closing bracket or its list.
 ghost use mathlib.Core.Path.{_≡_};
 ghost use Prim.Native.Nat.{_≤_};
 ghost use lib.ListN.{length};
@@ -18,7 +18,7 @@ use tokens::Token;
 use tokens::token_at;
 use tokens::word_of;
 
-// `older_than(`: a word is due, then `)`, and then the word must be a duration.
+// `older_than(`: a word is expected, then `)`, and then the word must be a duration.
 fn older_than_start(text: &[u8], at: usize, class: &[u8; 256]) -> PrimaryStart
     requires { ⌜ IsClassTable (now class) ⌝ }
     ensures { λ r. ⌜ BeginsAt (now (text .entry)) at r (olderThanStart (now (text .entry))) ⌝ }
@@ -51,7 +51,7 @@ fn older_than_start(text: &[u8], at: usize, class: &[u8; 256]) -> PrimaryStart
     }
 }
 
-// `readable(`: a word is due, which must be a count, then `)`.
+// `readable(`: a word is expected, which must be a count, then `)`.
 fn readable_start(text: &[u8], at: usize, class: &[u8; 256]) -> PrimaryStart
     requires { ⌜ IsClassTable (now class) ⌝ }
     ensures { λ r. ⌜ BeginsAt (now (text .entry)) at r (readableStart (now (text .entry))) ⌝ }
@@ -84,7 +84,7 @@ fn readable_start(text: &[u8], at: usize, class: &[u8; 256]) -> PrimaryStart
     }
 }
 
-// `at_least(`: a word is due, which must be a count, then a comma; its list follows.
+// `at_least(`: a word is expected, which must be a count, then a comma; its list follows.
 fn at_least_start(text: &[u8], place: usize, at: usize, class: &[u8; 256]) -> PrimaryStart
     requires { ⌜ IsClassTable (now class) ⌝ }
     ensures { λ r. ⌜ BeginsAt (now (text .entry)) at r (atLeastStart (now (text .entry)) place) ⌝ }
@@ -118,7 +118,7 @@ fn at_least_start(text: &[u8], place: usize, at: usize, class: &[u8; 256]) -> Pr
     }
 }
 
-// A function's call; its word is at `place`, and the position after its bracket is `at`.
+// A function's call: the function's word is at `place`, and `at` is the position after its bracket.
 pub fn call_start(
     text: &[u8],
     place: usize,

@@ -20,7 +20,7 @@ use verdict::Unknown;
 use verdict::Verdict;
 use verdict::refuse;
 
-// Checks the rule of an image of n nodes against stores of which no two have one name: 20, 21, 22.
+// Checks the rule of an image of n nodes against stores of which no two share a name: 20, 21, 22.
 fn check_names(
     image: &[u8],
     n: usize,
@@ -63,7 +63,7 @@ fn check_in(image: &[u8], n: usize, stores: &[u8], grades: &mut [u8]) -> Verdict
     check_names(image, n, stores, &starts, &slots, grades)
 }
 
-// Of at most 64 nodes.
+// The same, for at most 64 nodes.
 fn check_64(image: &[u8], n: usize, stores: &[u8]) -> Verdict
     requires { ⌜ ValidSubtree (now image) n 0 n × (n ≤ 64) ⌝ }
     ensures { λ r. ⌜ ((ρ : Rule) → sizeOf ρ ≡ n → EncodedAt ρ (cellAt (now (image .entry)) n) 0 → r ≡ checkRule ρ (now (stores .entry))) ⌝ }
@@ -72,7 +72,7 @@ fn check_64(image: &[u8], n: usize, stores: &[u8]) -> Verdict
     check_in(image, n, stores, &mut grades)
 }
 
-// Of at most 2,048.
+// The same, for at most 2,048 nodes.
 fn check_2048(image: &[u8], n: usize, stores: &[u8]) -> Verdict
     requires { ⌜ ValidSubtree (now image) n 0 n × (n ≤ 2048) ⌝ }
     ensures { λ r. ⌜ ((ρ : Rule) → sizeOf ρ ≡ n → EncodedAt ρ (cellAt (now (image .entry)) n) 0 → r ≡ checkRule ρ (now (stores .entry))) ⌝ }

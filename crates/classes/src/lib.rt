@@ -299,7 +299,7 @@ pub fn class_at(class: &[u8; 256], b: u8) -> u8
     class[b as usize]
 }
 
-// Where the bytes of one class, from a position of the text on, end.
+// Where the run of bytes of this class that begins at a position of the text ends.
 pub fn class_end(text: &[u8], at: usize, k: u8, class: &[u8; 256]) -> usize
     requires { ⌜ IsClassTable (now class) ⌝ }
     ensures { λ r. ⌜ r ≡ runEnd (ofClass k) (now (text .entry)) at ⌝ }

@@ -7,13 +7,13 @@ use libc::STDIN_FILENO;
 use libc::STDOUT_FILENO;
 use page::PAGE_BYTES;
 
-// A byte more than a text may have, which is enough to tell a long one.
+// One byte more than a text may have, which is enough to detect a long one.
 const READ_BYTES: usize = 2049;
 
-// A byte more than an argument may have that gives a store, which is enough to tell a long one.
+// One byte more than an argument that gives a store may have, which is enough to detect a long one.
 const ARG_BYTES: usize = 267;
 
-// 65 arguments, which are enough to tell too many, each with a 0 behind it.
+// 65 arguments, which is enough to detect too many, each with a 0 after it.
 const ARGS_BYTES: usize = 17_420;
 
 // What was read: how many bytes, or that a read failed.
@@ -63,7 +63,7 @@ pub fn ruleread() {
     io::write_all(STDOUT_FILENO, &line[..end]);
 }
 
-// Puts argument i, or the first bytes of one that is too long, and a 0 behind it, and answers where that ends.
+// Writes argument i, or the first bytes of one that is too long, and a 0 after it, and answers where that ends.
 fn collect_one(args: &mut [u8], at: usize, i: usize) -> usize
     requires { ⌜ at + 268 ≤ length (now args) ⌝ }
     ensures { λ r. ⌜ r ≤ at + 268 ⌝ }
@@ -77,7 +77,7 @@ fn collect_one(args: &mut [u8], at: usize, i: usize) -> usize
     end + 1
 }
 
-// Puts the program's arguments one behind the other, each with a 0 behind it, and answers where the last ends.
+// Writes the program's arguments one after another, each with a 0 after it, and answers where the last ends.
 fn collect(args: &mut [u8]) -> usize
     requires { ⌜ 17_420 ≤ length (now args) ⌝ }
     ensures { λ r. ⌜ r ≤ 17_420 ⌝ }

@@ -64,7 +64,7 @@ fn rule_says_64(
     evaluate(image, n, 0, n, &says, 1)
 }
 
-// Of at most 2,048.
+// The same, for at most 2,048 nodes.
 fn rule_says_2048(
     image: &[u8],
     n: usize,

@@ -5,7 +5,7 @@ use crate::Parsed;
 use crate::digit_of;
 use ascii::is_digit;
 
-// Where the digits of a count begin: past a `+`.
+// Where the digits of a count begin: after a `+`, if there is one.
 fn sign_end(word: &[u8]) -> usize
     ensures { λ r. ⌜ r ≡ signEnd (now (word .entry)) ⌝ }
 {

@@ -1,4 +1,4 @@
-// The digits of a number: how many there are, and the digits put into a text.
+// The digits of a number: how many there are, and the digits written into a text.
 ghost use mathlib.Core.Path.{_≡_};
 ghost use Prim.Native.Nat.{_≤_, _+_};
 ghost use lib.ListN.{length};
@@ -18,7 +18,7 @@ pub fn digit_count(n: u64) -> usize
     count
 }
 
-// Puts a number's digits so that they end at a position, and answers where they begin.
+// Writes a number's digits so that they end at a position, and answers where they begin.
 pub fn prepend_digits(text: &mut [u8], end: usize, n: u64) -> usize
     requires { ⌜ (length (digitsOf n) ≤ end) × (end ≤ length (now text)) ⌝ }
     ensures { λ r. ⌜ WrittenAt (now (text .entry)) (now (text .exit)) r end (digitsOf n) ⌝ }
@@ -35,7 +35,7 @@ pub fn prepend_digits(text: &mut [u8], end: usize, n: u64) -> usize
     at
 }
 
-// Puts a number's digits from a position on, and answers where they end.
+// Writes a number's digits from a position on, and answers where they end.
 pub fn append_digits(text: &mut [u8], at: usize, n: u64) -> usize
     requires { ⌜ at + 20 ≤ length (now text) ⌝ }
     ensures { λ r. ⌜ WrittenAt (now (text .entry)) (now (text .exit)) at r (digitsOf n) ⌝ }

@@ -26,7 +26,7 @@ use store_table::mode_at;
 use store_table::names_start;
 use verdict::OLDEST;
 
-// The line of a text in which a place stands, marked there, or behind the text's last visible byte.
+// The line of a text that has a place in it, marked there, or after the text's last visible byte.
 fn append_place(page: &mut [u8], at: usize, text: &[u8], place: usize) -> usize
     requires { ⌜ (length (now text) ≤ 2048) × (at + 4099 ≤ length (now page)) ⌝ }
     ensures { λ r. ⌜ WrittenAt (now (page .entry)) (now (page .exit)) at r (markedLine (now (text .entry)) (min place (textEnd (now (text .entry))))) ⌝ }

@@ -34,7 +34,7 @@ pub fn duration_size(ms: u64) -> usize
     days + hours + minutes + seconds + millis
 }
 
-// Puts a part's text so that it ends at a position, and answers where it begins; nothing where it is zero.
+// Writes a part's text so that it ends at a position, and answers where it begins; nothing where it is zero.
 fn prepend_part(text: &mut [u8], end: usize, k: u64, unit: &[u8]) -> usize
     requires { ⌜ (length (partText k (now unit)) ≤ end) × (end ≤ length (now text)) ⌝ }
     ensures { λ r. ⌜ WrittenAt (now (text .entry)) (now (text .exit)) r end (partText k (now (unit .entry))) ⌝ }
@@ -46,7 +46,7 @@ fn prepend_part(text: &mut [u8], end: usize, k: u64, unit: &[u8]) -> usize
     prepend_digits(text, at, k)
 }
 
-// Puts a duration's text so that it ends at a position, and answers where it begins: its last part first.
+// Writes a duration's text so that it ends at a position, its last part first, and answers where it begins.
 pub fn format_duration(text: &mut [u8], end: usize, ms: u64) -> usize
     requires { ⌜ (length (durationText ms) ≤ end) × (end ≤ length (now text)) ⌝ }
     ensures { λ r. ⌜ WrittenAt (now (text .entry)) (now (text .exit)) r end (durationText ms) ⌝ }

@@ -16,7 +16,7 @@ use classes::class_end;
 use decimal::Parsed;
 use decimal::digit_of;
 
-// Where the digits, from a position of the word on, end.
+// Where the digits that begin at a position of the word end.
 fn digits_end(word: &[u8], at: usize) -> usize
     ensures { λ r. ⌜ r ≡ runEnd isDigit (now (word .entry)) at ⌝ }
 {
@@ -41,7 +41,7 @@ fn is_unit_byte(b: u8, class: &[u8; 256]) -> bool
     class_at(class, b) != classes::BLANK
 }
 
-// Where the bytes of a unit's name, from a position of the word on, end.
+// Where the bytes of a unit's name that begin at a position of the word end.
 fn unit_end(word: &[u8], at: usize, class: &[u8; 256]) -> usize
     requires { ⌜ IsClassTable (now class) ⌝ }
     ensures { λ r. ⌜ r ≡ runEnd isUnitByte (now (word .entry)) at ⌝ }
@@ -70,13 +70,13 @@ fn decimal_of(word: &[u8], from: usize, to: usize) -> u64
     value
 }
 
-// What stands at a position of a duration: a part of this unit, in milliseconds, and where the next one is due; or none.
+// What is at a position of a duration: a part of this unit, in milliseconds, and where the next one is expected; or none.
 pub enum Part {
     Of(u64, usize),
     Not,
 }
 
-// A part of the unit of a rank: 1 to 9 digits, blanks or none, and the unit's name.
+// A part of the unit of a rank: 1 to 9 digits, any blanks, and the unit's name.
 fn part_at(word: &[u8], at: usize, rank: usize, class: &[u8; 256]) -> Part
     requires { ⌜ (at ≤ length (now word)) × ((rank < length units) × IsClassTable (now class)) ⌝ }
     ensures { λ r. ⌜ r ≡ partAt (unitAt rank) (now (word .entry)) at ⌝ }
@@ -100,7 +100,7 @@ fn part_at(word: &[u8], at: usize, rank: usize, class: &[u8; 256]) -> Part
     Part::Not
 }
 
-// A duration: blanks, then parts in the order of their units, each at most once, with or without blanks behind them.
+// A duration: blanks, then parts in the order of their units, each at most once, with or without blanks after them.
 pub fn parse_duration(word: &[u8], class: &[u8; 256]) -> Parsed
     requires { ⌜ IsClassTable (now class) ⌝ }
     ensures { λ r. ⌜ r ≡ durationOf (now (word .entry)) ⌝ }

@@ -14,7 +14,7 @@ pub struct TimeUnit {
 // How many units there are.
 pub const UNITS: usize = 6;
 
-// The units in the order in which they fall.
+// The units, from the largest to the smallest.
 pub fn time_unit(rank: usize) -> TimeUnit
     requires { ⌜ rank < length units ⌝ }
     ensures { λ r. ⌜ IsUnit (unitAt rank) r ⌝ }

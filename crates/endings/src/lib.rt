@@ -20,7 +20,7 @@ use signs::sign_at;
 use tokens::Next;
 use tokens::token_at;
 
-// How many of n nodes stay where a chain goes on: the last one goes where it is of the chain's kind.
+// How many of n nodes stay where a chain continues: the last one is dropped where it is of the chain's kind.
 fn nodes_before_chain(tags: &[u32], n: usize, kind: u32) -> usize
     requires { ⌜ (0 < n) × (n ≤ length (now tags)) ⌝ }
     ensures { λ r. ⌜ (r ≡ keepIf (eqb (tagKind (getD (now (tags .entry)) (n - 1) 0)) kind) n) × ((r ≤ n) × (n ≤ r + 1)) ⌝ }

@@ -13,7 +13,7 @@ ghost use Rattle.evaluate.specs.Evict.{joinSays, countTrue};
 ghost use Rattle.evaluate.specs.Inner.By.{evictBy, saysAt};
 use image::node_at;
 
-// What a combinator says of children of whom `yes` of `total` say evict: each kind by its own line.
+// What a combinator says if `yes` of its `total` children say evict: each kind by its own line.
 fn join_says(kind: u32, arg: u64, yes: u64, total: u64) -> bool
     ensures { λ r. ⌜ ((s : List ℕ) (n : ℕ) (j : Join) (bs : List Bool) → meaning s n kind arg ≡ aJoin j → countTrue bs ≡ yes → length bs ≡ total → r ≡ joinSays j bs) ⌝ }
 {
@@ -25,7 +25,7 @@ fn join_says(kind: u32, arg: u64, yes: u64, total: u64) -> bool
     }
 }
 
-// What the rule says whose nodes are the `size` from `from` on, where a leaf says evict if its number is at least `least`: the
+// What the rule says whose nodes are the `size` from `from` on, where a leaf says evict if its number is at least `least`. The
 // size falls at each call, and leaves need none.
 pub fn evaluate(image: &[u8], n: usize, from: usize, size: usize, says: &[u8], least: u8) -> bool
     requires { ⌜ Row (now image) n from size × (n ≤ length (now says)) ⌝ }

@@ -1,4 +1,4 @@
-// The grade of each leaf: whether it says evict at the largest age, with nothing or with the write-only stores confirmed.
+// The grade of each leaf: whether it says evict at the largest age with nothing confirmed, or with the write-only stores confirmed.
 ghost use mathlib.Core.Path.{_≡_};
 ghost use mathlib.Core.List.{List};
 ghost use Prim.Native.Nat.{ℕ, _≤_};

@@ -20,7 +20,7 @@ pub enum Combinator {
 }
 
 // A store's name, as its part of the text; another leaf; a bracket; a function with a list, and the place of its word; each
-// with where the text goes on. Or a refusal.
+// with the position where the text continues. Or a refusal.
 pub enum PrimaryStart {
     Name {
         start: usize,

@@ -11,8 +11,8 @@ fn value_of(b: u8) -> u8 {
     16
 }
 
-// Writes digits in hex to the front of a buffer, two to a byte, as far as they are such digits and there is room, and answers how
-// many these are.
+// Writes the bytes that hex digits make to the front of a buffer, two digits to a byte, as long as they are such digits and there
+// is room, and answers how many digits were taken.
 pub fn decode(digits: &[u8], out: &mut [u8]) -> usize {
     let mut i = 0;
     while i < digits.len() && i / 2 < out.len() {
@@ -26,7 +26,7 @@ pub fn decode(digits: &[u8], out: &mut [u8]) -> usize {
     i
 }
 
-// A digit in hex.
+// The hex digit of a value.
 fn glyph(value: u8) -> u8 {
     if value < 10 {
         return b'0' + value;
@@ -34,7 +34,7 @@ fn glyph(value: u8) -> u8 {
     b'a' + (value - 10) % 16
 }
 
-// A digit in hex: of a byte's high half for an even index, of its low half for an odd one.
+// The hex digit at an index: of a byte's high half for an even index, of its low half for an odd one.
 fn half(b: u8, index: usize) -> u8 {
     if index % 2 == 0 {
         return glyph(b / 16);
@@ -42,7 +42,7 @@ fn half(b: u8, index: usize) -> u8 {
     glyph(b % 16)
 }
 
-// Writes bytes in hex to the front of a buffer, as far as there is room, and answers how many digits these are.
+// Writes bytes in hex to the front of a buffer, as far as there is room, and answers how many digits were written.
 pub fn encode(bytes: &[u8], out: &mut [u8]) -> usize {
     let mut i = 0;
     while i < out.len() {

@@ -16,7 +16,7 @@ use image::node_at;
 use image::node_count;
 use slices::ascii_from;
 
-// Whether the last of the rules that the first `end` nodes make are just the nodes from `from` on.
+// Whether the last of the rules that the first `end` nodes make are exactly the nodes from `from` on.
 fn children_fit(image: &[u8], n: usize, from: usize, end: usize) -> bool
     requires { ⌜ BuiltUpTo (now image) n end × (from ≤ end) ⌝ }
     ensures { λ r. ⌜ ((rs : Rules) → build (cellAt (now (image .entry)) n) end ≡ some rs → r ≡ isSome (split rs (end - from))) ⌝ }
@@ -33,7 +33,7 @@ fn children_fit(image: &[u8], n: usize, from: usize, end: usize) -> bool
     true
 }
 
-// Whether node i goes on from the rules that the nodes before it make.
+// Whether node i can follow the rules that the nodes before it make.
 fn node_fits(image: &[u8], n: usize, i: usize) -> bool
     requires { ⌜ BuiltUpTo (now image) n i × (i < n) ⌝ }
     ensures { λ r. ⌜ r ≡ isSome (build (cellAt (now (image .entry)) n) (suc i)) ⌝ }
@@ -64,7 +64,7 @@ fn node_fits(image: &[u8], n: usize, i: usize) -> bool
     }
 }
 
-// Whether n nodes make just one rule.
+// Whether n nodes make exactly one rule.
 fn nodes_fit(image: &[u8], n: usize) -> bool
     requires { ⌜ (namesStart n ≤ length (now image)) × (0 < n) ⌝ }
     ensures { λ r. ⌜ r ≡ isSome (bind (build (cellAt (now (image .entry)) n) n) only) ⌝ }

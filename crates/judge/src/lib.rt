@@ -28,7 +28,7 @@ fn judge_in(text: &[u8], image: &mut [u8], stores: &[u8]) -> Verdict
     }
 }
 
-// A text of at most 64 bytes.
+// The same, for a text of at most 64 bytes.
 fn judge_64(text: &[u8], stores: &[u8]) -> Verdict
     requires { ⌜ length (now text) ≤ 64 ⌝ }
     ensures { λ r. ⌜ r ≡ judgeOf (now (text .entry)) (now (stores .entry)) ⌝ }
@@ -37,7 +37,7 @@ fn judge_64(text: &[u8], stores: &[u8]) -> Verdict
     judge_in(text, &mut image, stores)
 }
 
-// At most 512.
+// The same, for at most 512.
 fn judge_512(text: &[u8], stores: &[u8]) -> Verdict
     requires { ⌜ length (now text) ≤ 512 ⌝ }
     ensures { λ r. ⌜ r ≡ judgeOf (now (text .entry)) (now (stores .entry)) ⌝ }
@@ -46,7 +46,7 @@ fn judge_512(text: &[u8], stores: &[u8]) -> Verdict
     judge_in(text, &mut image, stores)
 }
 
-// At most 2,048.
+// The same, for at most 2,048.
 fn judge_2048(text: &[u8], stores: &[u8]) -> Verdict
     requires { ⌜ length (now text) ≤ 2048 ⌝ }
     ensures { λ r. ⌜ r ≡ judgeOf (now (text .entry)) (now (stores .entry)) ⌝ }

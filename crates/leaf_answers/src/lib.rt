@@ -13,7 +13,7 @@ use image::is_leaf;
 use image::name_of;
 use image::node_at;
 
-// What a decision looks at beside the list: the age, and how many readable stores are confirmed.
+// What a decision looks at besides the list: the age, and how many readable stores are confirmed.
 pub struct EnvNumbers {
     pub age: u64,
     pub ready: u64,

@@ -22,7 +22,7 @@ pub fn append_numbers(text: &mut [u8], at: usize, word: &[u8], a: u64, b: u64) -
     append(text, b_end, b"\n")
 }
 
-// A piece without the blanks behind it.
+// Appends a piece without the blanks at its end.
 fn append_trimmed(text: &mut [u8], at: usize, piece: &[u8]) -> usize
     requires { ⌜ at + length (now piece) ≤ length (now text) ⌝ }
     ensures { λ r. ⌜ WrittenAt (now (text .entry)) (now (text .exit)) at r (trimmed (now (piece .entry))) ⌝ }
@@ -45,7 +45,7 @@ pub fn append_meaning(text: &mut [u8], at: usize, number: u8) -> usize
     append(text, meaning_end, b"\n")
 }
 
-// A byte as it is shown.
+// A byte as it is shown: a tab as a blank, and any other byte that does not print as a question mark.
 fn shown_byte(b: u8) -> u8
     ensures { λ r. ⌜ r ≡ shown b ⌝ }
 {
@@ -61,7 +61,7 @@ fn shown_byte(b: u8) -> u8
     b'?'
 }
 
-// Bytes as they are shown.
+// Appends bytes as they are shown.
 pub fn append_shown(text: &mut [u8], at: usize, piece: &[u8]) -> usize
     requires { ⌜ at + length (now piece) ≤ length (now text) ⌝ }
     ensures { λ r. ⌜ WrittenAt (now (text .entry)) (now (text .exit)) at r (shownAll (now (piece .entry))) ⌝ }
@@ -74,7 +74,7 @@ pub fn append_shown(text: &mut [u8], at: usize, piece: &[u8]) -> usize
     at + i
 }
 
-// So many blanks.
+// Appends n blanks.
 fn append_blanks(text: &mut [u8], at: usize, n: usize) -> usize
     requires { ⌜ at + n ≤ length (now text) ⌝ }
     ensures { λ r. ⌜ WrittenAt (now (text .entry)) (now (text .exit)) at r (replicate n 32) ⌝ }
@@ -87,7 +87,7 @@ fn append_blanks(text: &mut [u8], at: usize, n: usize) -> usize
     at + i
 }
 
-// The line of a rule in which a place stands, and a line with a mark under the place.
+// The line of a rule that has a place in it, and a line with a mark under the place.
 pub fn append_marked(text: &mut [u8], at: usize, rule: &[u8], place: usize) -> usize
     requires { ⌜ (place ≤ length (now rule)) × (at + 2 * length (now rule) + 3 ≤ length (now text)) ⌝ }
     ensures { λ r. ⌜ WrittenAt (now (text .entry)) (now (text .exit)) at r (markedLine (now (rule .entry)) place) ⌝ }

@@ -44,7 +44,7 @@ pub fn write_u16(s: &mut [u8], at: usize, x: u64)
     s[at + 1] = (x / 256 % 256) as u8;
 }
 
-// In four bytes.
+// The same in four bytes.
 pub fn write_u32(s: &mut [u8], at: usize, x: u64)
     requires { ⌜ at + 4 ≤ length (now s) ⌝ }
     ensures { λ _. ⌜ now (s .exit) ≡ written (now (s .entry)) at (leBytes 4 x) ⌝ }
@@ -53,7 +53,7 @@ pub fn write_u32(s: &mut [u8], at: usize, x: u64)
     write_u16(s, at + 2, x / 65536);
 }
 
-// In eight bytes.
+// The same in eight bytes.
 pub fn write_u64(s: &mut [u8], at: usize, x: u64)
     requires { ⌜ at + 8 ≤ length (now s) ⌝ }
     ensures { λ _. ⌜ now (s .exit) ≡ written (now (s .entry)) at (leBytes 8 x) ⌝ }

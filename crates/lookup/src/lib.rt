@@ -1,4 +1,4 @@
-// A name looked up in a table: by its index, or by a look at each entry.
+// A name looked up in a table: by the table's index, or by a look at each entry.
 ghost use mathlib.Core.Path.{_≡_};
 ghost use Prim.Native.Nat.{_≤_, _<_};
 ghost use Rattle.store_table.specs.Stores.{countIn, entriesIn};
@@ -12,7 +12,7 @@ use store_table::names_start;
 use store_table::same_name;
 use store_table::to_usize;
 
-// The first entry of this name among the first `first`, by a look at each.
+// The first entry that has this name among the first `first`, by a look at each.
 pub fn position(name: &[u8], s: &[u8], first: usize) -> Found
     requires { ⌜ TableInBounds (now s) × (first ≤ countIn (now s)) ⌝ }
     ensures { λ r. ⌜ Finds (now (name .entry)) (entriesIn (now (s .entry))) first r ⌝ }
@@ -31,7 +31,7 @@ pub fn position(name: &[u8], s: &[u8], first: usize) -> Found
     Found::No
 }
 
-// An entry of this name among the first `first`, which are indexed; the name's hash is known.
+// An entry that has this name among the first `first`, which are indexed; the name's hash is known.
 pub fn find_by(
     name: &[u8],
     hash: usize,
@@ -56,7 +56,7 @@ pub fn find_by(
     position(name, s, first)
 }
 
-// An entry of this name in an indexed table.
+// An entry that has this name in an indexed table.
 pub fn find(name: &[u8], s: &[u8], starts: &[u16; 64], slots: &[u8; 512]) -> Found
     requires { ⌜ TableInBounds (now s) × IndexedAll (now s) (now starts) (now slots) ⌝ }
     ensures { λ r. ⌜ Finds (now (name .entry)) (entriesIn (now (s .entry))) (countIn (now (s .entry))) r ⌝ }

@@ -1,4 +1,4 @@
-// A hash of a name: the same names have the same.
+// A hash of a name: equal names have equal hashes.
 ghost use mathlib.Core.Path.{_≡_};
 ghost use Prim.Native.Nat.{_<_};
 ghost use Rattle.store_table.specs.Inner.Index.{keyOf, hashOf};
@@ -22,7 +22,7 @@ fn key_of(name: &[u8]) -> u64
     0
 }
 
-// A name's slot in the index: the same names have the same.
+// A name's slot in the index: equal names have the same slot.
 pub fn hash_of(name: &[u8]) -> usize
     ensures { λ r. ⌜ (r ≡ hashOf (now (name .entry))) × (r < 512) ⌝ }
 {

@@ -19,7 +19,7 @@ use image::name_arg;
 use image::tag_of;
 use refusals::Refusal;
 
-// Where the text goes on, and how many nodes and name bytes stand; or a refusal.
+// Where the text continues, and how many nodes and name bytes have been written; or a refusal.
 pub enum ParseEnd {
     Done { next: usize, n: usize, m: usize },
     Refused(Refusal),
@@ -31,7 +31,7 @@ pub fn refuse(number: u8, place: usize) -> ParseEnd
     ParseEnd::Refused(Refusal { number, place })
 }
 
-// Writes node n: its kind, how many nodes it counts, its argument.
+// Writes node n: its kind, its size, its argument.
 fn push(tags: &mut [u32], args: &mut [u64], n: usize, kind: u32, size: usize, arg: u64)
     requires { ⌜ (n < length (now tags)) × ((n < length (now args)) × ((kind < 256) × (size ≤ 65536))) ⌝ }
     ensures { λ _. ⌜ (now (tags .exit) ≡ set (now (tags .entry)) n (tag kind size)) × (now (args .exit) ≡ set (now (args .entry)) n arg) ⌝ }
@@ -40,7 +40,7 @@ fn push(tags: &mut [u32], args: &mut [u64], n: usize, kind: u32, size: usize, ar
     args[n] = arg;
 }
 
-// Writes a name, a part of the text, behind the first m name bytes.
+// Writes a name, a part of the text, after the first m name bytes.
 fn write_name(text: &[u8], start: usize, end: usize, names: &mut [u8], m: usize)
     requires { ⌜ (start ≤ end) × ((end ≤ length (now text)) × (m + (end - start) ≤ length (now names))) ⌝ }
     ensures { λ _. ⌜ take (m + (end - start)) (now (names .exit)) ≡ take m (now (names .entry)) ++ part (now (text .entry)) start end ⌝ }
@@ -79,7 +79,7 @@ pub fn push_name(
     }
 }
 
-// Writes the node of a leaf that is no name after the first n; the names, whatever they are, stay as they are.
+// Writes the node of a leaf that is no name after the first n; the names stay as they are.
 pub fn push_test(
     test: Test,
     next: usize,
@@ -95,7 +95,7 @@ pub fn push_test(
     ParseEnd::Done { next, n: n + 1, m }
 }
 
-// Writes a combinator's node after the first n, over those from `first` on, and answers how many there are then.
+// Writes a combinator's node after the first n, over those from `first` on, and answers how many nodes there are then.
 pub fn push_combinator(
     tags: &mut [u32],
     args: &mut [u64],

@@ -44,7 +44,7 @@ fn append_argument(page: &mut [u8], index: usize, fault: Fault) -> usize
     append(page, fault_end, b"\n")
 }
 
-// Judges a text for the stores that arguments give, each with a 0 behind it, and prints the verdict and what it means. Answers how
+// Judges a text for the stores that arguments give, each with a 0 after it, and prints the verdict and what it means. Answers how
 // many bytes were written to the front of the page.
 pub fn report(text: &[u8], args: &[u8], page: &mut [u8]) -> usize
     ensures { λ r. ⌜ WrittenAt (now (page .entry)) (now (page .exit)) 0 r (pageOf (now (text .entry)) (now (args .entry)) (now (page .entry))) ⌝ }

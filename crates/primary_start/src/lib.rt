@@ -70,7 +70,7 @@ fn word_start(
     unquoted_start(text, depth, place, start, end, next, class)
 }
 
-// How the primary at a position begins, where `depth` brackets stand open.
+// How the primary at a position begins, where `depth` brackets are open.
 pub fn primary_start_at(text: &[u8], at: usize, depth: usize, class: &[u8; 256]) -> PrimaryStart
     requires { ⌜ IsClassTable (now class) ⌝ }
     ensures { λ r. ⌜ Begins (now (text .entry)) at (at + 1) (left (now (text .entry)) at - 1) r (primaryStart (now (text .entry)) depth (tokensFrom (now (text .entry)) at)) ⌝ }

@@ -12,7 +12,7 @@ use image::name_of;
 use print_size::is_bracketed;
 use slices::prepend;
 
-// Puts a leaf's text so that it ends at a position, and answers where it begins; so do the functions below with other pieces.
+// Writes a leaf's text so that it ends at a position, and answers where it begins; the functions below do so with other pieces.
 pub fn prepend_leaf(
     image: &[u8],
     n: usize,
@@ -40,7 +40,7 @@ pub fn prepend_leaf(
     }
 }
 
-// What stands before a combinator's children.
+// What comes before a combinator's children.
 pub fn prepend_opening(kind: u32, arg: u64, text: &mut [u8], end: usize) -> usize
     requires { ⌜ (length (openingOf kind arg) ≤ end) × (end ≤ length (now text)) ⌝ }
     ensures { λ r. ⌜ WrittenAt (now (text .entry)) (now (text .exit)) r end (openingOf kind arg) ⌝ }
@@ -55,7 +55,7 @@ pub fn prepend_opening(kind: u32, arg: u64, text: &mut [u8], end: usize) -> usiz
     }
 }
 
-// What stands behind a child that is the last, or is not.
+// What comes after a child, the last one or an earlier one.
 fn prepend_after(kind: u32, last: bool, text: &mut [u8], end: usize) -> usize
     requires { ⌜ (length (behindOf kind last) ≤ end) × (end ≤ length (now text)) ⌝ }
     ensures { λ r. ⌜ WrittenAt (now (text .entry)) (now (text .exit)) r end (behindOf kind last) ⌝ }
@@ -75,7 +75,7 @@ fn prepend_after(kind: u32, last: bool, text: &mut [u8], end: usize) -> usize
     }
 }
 
-// What stands behind a child, its closing bracket included.
+// What comes after a child, its closing bracket included.
 pub fn prepend_back(kind: u32, child: u32, last: bool, text: &mut [u8], end: usize) -> usize
     requires { ⌜ (length (backOf kind child last) ≤ end) × (end ≤ length (now text)) ⌝ }
     ensures { λ r. ⌜ WrittenAt (now (text .entry)) (now (text .exit)) r end (backOf kind child last) ⌝ }

@@ -16,7 +16,7 @@ use image::is_leaf;
 use image::name_of;
 use image::node_at;
 
-// Whether a child of one kind stands in brackets under a combinator of another.
+// Whether a child of one kind is in brackets under a combinator of another.
 pub fn is_bracketed(kind: u32, child: u32) -> bool
     ensures { λ r. ⌜ r ≡ bracketedOf kind child ⌝ }
 {
@@ -46,7 +46,7 @@ fn opening_size(kind: u32, arg: u64) -> usize
     }
 }
 
-// The bytes behind a child that is the last, or is not.
+// The bytes after a child, the last one or an earlier one.
 fn behind_size(kind: u32, last: bool) -> usize
     ensures { λ r. ⌜ r ≡ length (behindOf kind last) ⌝ }
 {
@@ -65,7 +65,7 @@ fn behind_size(kind: u32, last: bool) -> usize
     }
 }
 
-// The bytes round a child's own text: brackets, and what stands behind it.
+// The bytes around a child's own text: brackets, and what comes after it.
 fn around_size(kind: u32, child: u32, last: bool) -> usize
     ensures { λ r. ⌜ r ≡ length (frontOf kind child) + length (backOf kind child last) ⌝ }
 {

@@ -54,7 +54,7 @@ fn read_64(text: &[u8], image: &mut [u8], class: &[u8; 256]) -> Reading
     read_by(text, image, &mut tags, &mut args, &mut names, class)
 }
 
-// Of at most 512.
+// The same, for at most 512 bytes.
 fn read_512(text: &[u8], image: &mut [u8], class: &[u8; 256]) -> Reading
     requires { ⌜ IsClassTable (now class) × ((length (now text) ≤ 512) × (4 + 13 * length (now text) ≤ length (now image))) ⌝ }
     ensures { λ r. ⌜ outcome r (now (image .exit)) ≡ readingOf (readOf (now (text .entry))) (now (image .entry)) ⌝ }
@@ -65,7 +65,7 @@ fn read_512(text: &[u8], image: &mut [u8], class: &[u8; 256]) -> Reading
     read_by(text, image, &mut tags, &mut args, &mut names, class)
 }
 
-// Of at most 2,048.
+// The same, for at most 2,048 bytes.
 fn read_2048(text: &[u8], image: &mut [u8], class: &[u8; 256]) -> Reading
     requires { ⌜ IsClassTable (now class) × ((length (now text) ≤ 2048) × (4 + 13 * length (now text) ≤ length (now image))) ⌝ }
     ensures { λ r. ⌜ outcome r (now (image .exit)) ≡ readingOf (readOf (now (text .entry))) (now (image .entry)) ⌝ }

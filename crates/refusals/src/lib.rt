@@ -17,7 +17,7 @@ pub const LONG_TEXT: u8 = 2;
 // foreign byte: a byte of 128 or more in the text.
 pub const FOREIGN_BYTE: u8 = 3;
 
-// half sign: `&` or `|` not followed by its like.
+// half sign: `&` or `|` not followed by the same sign.
 pub const HALF_SIGN: u8 = 4;
 
 // open quote: no closing mark of the same sort.
@@ -50,7 +50,7 @@ pub const BAD_DURATION: u8 = 13;
 // empty list: list function without arguments.
 pub const EMPTY_LIST: u8 = 14;
 
-// too deep: a bracket opened while 64 stand open.
+// too deep: a bracket opened while 64 are open.
 pub const TOO_DEEP: u8 = 15;
 
 // bad image: layout broken.
@@ -194,7 +194,7 @@ const TABLE: [Row; 22] = [
     },
 ];
 
-// The row of a number, by which a program tells a person what was refused; a number that no refusal has gets blanks.
+// The row of a number, with which a program tells a person what was refused; for a number that no refusal has, blanks.
 pub fn row_of(number: u8) -> Row
     ensures { λ r. ⌜ r ≡ rowOf number ⌝ }
 {

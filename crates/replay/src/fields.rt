@@ -1,6 +1,6 @@
-// The fields of a line, which single blanks part, and what they mean.
+// The fields of a line, which are separated by single blanks, and what they mean.
 
-// More bytes than any field has, those of `io::large_buffer`: such a buffer is handed back whole where a field is not in the format.
+// More bytes than any field has: those of `io::large_buffer`, which is handed back whole where a field is not in the format.
 pub const SPACE: usize = 65536;
 
 // Where the first blank of a line is, or its length.
@@ -37,7 +37,7 @@ pub fn rest(line: &[u8]) -> &[u8] {
     &line[..0]
 }
 
-// How many bytes a field has, so many of its digits being in hex; a dash has none. The most where it is not in the format.
+// How many bytes a field has, if this many of its digits are in hex; a dash has none. Where it is not in the format, the most.
 fn size_of(field: &[u8], digits: usize, most: usize) -> usize {
     if ascii::eq(field, b"-") {
         return 0;

@@ -12,7 +12,7 @@ use tokens::Scanned;
 use tokens::Token;
 use tokens::token_at;
 
-// Where the first foreign byte stands, or the text's length.
+// Where the first foreign byte is, or the text's length.
 pub fn foreign_at(text: &[u8], class: &[u8; 256]) -> usize
     requires { ⌜ IsClassTable (now class) ⌝ }
     ensures { λ r. ⌜ r ≡ runEnd ascii (now (text .entry)) 0 ⌝ }

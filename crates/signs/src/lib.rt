@@ -1,4 +1,4 @@
-// What follows a token: where the text goes on, and whether a certain sign or bracket is next.
+// What follows a token: where the text continues, and whether a certain sign or bracket is next.
 ghost use mathlib.Core.Path.{_≡_};
 ghost use Prim.Native.Nat.{_≤_};
 ghost use Rattle.classes.specs.Class.{openBracket, comma, ampersand, bar};
@@ -12,7 +12,7 @@ use tokens::Token;
 use tokens::doubled_at;
 use tokens::unquoted_at;
 
-// Where the text goes on after a token.
+// Where the text continues after a token.
 pub fn next_of(t: Token) -> Next
     ensures { λ r. ⌜ r ≡ nextOf t ⌝ }
 {
@@ -34,7 +34,7 @@ pub fn next_of(t: Token) -> Next
     }
 }
 
-// The first byte of a token; of the end, the text's length.
+// The place of a token: its first byte; of the end, the text's length.
 pub fn place_of(t: Token) -> usize
     ensures { λ r. ⌜ r ≡ placeOf t ⌝ }
 {
@@ -56,7 +56,7 @@ pub fn place_of(t: Token) -> usize
     }
 }
 
-// Where the text goes on after a bracket or a comma of this class, if that is the next token.
+// Where the text continues after a bracket or a comma of this class, if that is the next token.
 pub fn bracket_at(text: &[u8], at: usize, k: u8, class: &[u8; 256]) -> Next
     requires { ⌜ IsClassTable (now class) × ((openBracket ≤ k) × (k ≤ comma)) ⌝ }
     ensures { λ r. ⌜ r ≡ nextOfClass k (tokenAt (now (text .entry)) at) ⌝ }
@@ -71,7 +71,7 @@ pub fn bracket_at(text: &[u8], at: usize, k: u8, class: &[u8; 256]) -> Next
     Next::Off
 }
 
-// Where the text goes on after a token, if it is the sign of this class.
+// Where the text continues after a token, if it is the sign of this class.
 fn next_if(t: Token, k: u8) -> Next
     requires { ⌜ (ampersand ≤ k) × (k ≤ bar) ⌝ }
     ensures { λ r. ⌜ r ≡ nextOfClass k t ⌝ }
@@ -93,7 +93,7 @@ fn next_if(t: Token, k: u8) -> Next
     }
 }
 
-// Where the text goes on after the sign of this class, if that is the next token: `&&` or `and`, `||` or `or`.
+// Where the text continues after the sign of this class, if that is the next token: `&&` or `and`, `||` or `or`.
 pub fn sign_at(text: &[u8], at: usize, k: u8, class: &[u8; 256]) -> Next
     requires { ⌜ IsClassTable (now class) × ((ampersand ≤ k) × (k ≤ bar)) ⌝ }
     ensures { λ r. ⌜ r ≡ nextOfClass k (tokenAt (now (text .entry)) at) ⌝ }

@@ -21,7 +21,7 @@ pub fn largest_from(s: &[u8], at: usize) -> u8
     most
 }
 
-// Behind the last of the first `at` bytes that is from lo up to hi, or 0.
+// The position after the last of the first `at` bytes that is from lo up to hi; 0 where there is none.
 pub fn end_of_last(s: &[u8], at: usize, lo: u8, hi: u8) -> usize
     requires { ⌜ at ≤ length (now s) ⌝ }
     ensures { λ r. ⌜ r ≡ endOfLast (within lo hi) (now (s .entry)) at ⌝ }
@@ -39,7 +39,7 @@ pub fn end_of_last(s: &[u8], at: usize, lo: u8, hi: u8) -> usize
     0
 }
 
-// Puts a piece so that it ends at a position, and answers where it begins.
+// Writes a piece so that it ends at a position, and answers where it begins.
 pub fn prepend(text: &mut [u8], end: usize, piece: &[u8]) -> usize
     requires { ⌜ (length (now piece) ≤ end) × (end ≤ length (now text)) ⌝ }
     ensures { λ r. ⌜ WrittenAt (now (text .entry)) (now (text .exit)) r end (now (piece .entry)) ⌝ }
@@ -53,7 +53,7 @@ pub fn prepend(text: &mut [u8], end: usize, piece: &[u8]) -> usize
     start
 }
 
-// Puts a piece from a position on, and answers where it ends.
+// Writes a piece from a position on, and answers where it ends.
 pub fn append(text: &mut [u8], at: usize, piece: &[u8]) -> usize
     requires { ⌜ at + length (now piece) ≤ length (now text) ⌝ }
     ensures { λ r. ⌜ WrittenAt (now (text .entry)) (now (text .exit)) at r (now (piece .entry)) ⌝ }
@@ -63,7 +63,7 @@ pub fn append(text: &mut [u8], at: usize, piece: &[u8]) -> usize
     end
 }
 
-// Where the next mark of this sort stands, from a position on, or the text's length.
+// Where the next mark of this sort is, from a position on, or the text's length.
 pub fn mark_at(text: &[u8], at: usize, mark: u8) -> usize
     ensures { λ r. ⌜ r ≡ runEnd (other mark) (now (text .entry)) at ⌝ }
 {

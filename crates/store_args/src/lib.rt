@@ -29,7 +29,7 @@ pub enum Given {
     Wrong(Fault),
 }
 
-// Where the names end with that of a store more, or what is wrong with it.
+// Where the names end with one store's name more, or what is wrong with it.
 pub enum One {
     Used(usize),
     Wrong(Fault),
@@ -61,7 +61,7 @@ fn name_tested(arg: &[u8], end: usize, mode: u8) -> Given
     Given::Store { mode, end }
 }
 
-// The store whose name is the front of an argument and whose mode is what stands from a position on.
+// The store whose name is the front of an argument and whose mode is the part from a position on.
 fn mode_tested(arg: &[u8], end: usize, from: usize) -> Given
     requires { ⌜ (end ≤ from) × (from ≤ length (now arg)) ⌝ }
     ensures { λ r. ⌜ Is (now (arg .entry)) r (modeTested (drop from (now (arg .entry))) (take end (now (arg .entry)))) ⌝ }

@@ -13,7 +13,7 @@ use store_table::count_of;
 use store_table::length_at;
 use store_table::names_start;
 
-// Puts entry k, whose name begins at `at` and has this hash, into the index.
+// Adds entry k, whose name begins at `at` and has this hash, to the index.
 fn enter(starts: &mut [u16], slots: &mut [u8], k: usize, at: usize, hash: usize)
     requires { ⌜ ((k < length (now starts)) × (hash < length (now slots))) × ((k < 255) × (at < 65536)) ⌝ }
     ensures { λ _. ⌜ (now (starts .exit) ≡ set (now (starts .entry)) k at) × (now (slots .exit) ≡ set (now (slots .entry)) hash (k + 1)) ⌝ }
@@ -22,7 +22,7 @@ fn enter(starts: &mut [u16], slots: &mut [u8], k: usize, at: usize, hash: usize)
     slots[hash] = (k + 1) as u8;
 }
 
-// The lowest index whose name an earlier store has; where there is none, the table is indexed.
+// The lowest index of a store whose name an earlier store has; where there is none, the table is indexed.
 pub fn twin_of(stores: &[u8], starts: &mut [u16; 64], slots: &mut [u8; 512]) -> Twin
     requires { ⌜ TableInBounds (now stores) × Blank (now slots) ⌝ }
     ensures { λ r. ⌜ (r ≡ twinOf (entriesIn (now (stores .entry)))) × (r ≡ Twin.No → IndexedAll (now (stores .entry)) (now (starts .exit)) (now (slots .exit))) ⌝ }

@@ -37,7 +37,7 @@ pub fn to_usize(x: u8) -> usize
     x as usize
 }
 
-// Two names of one length are the same from a position on.
+// Whether two names of the same length are the same from a position on.
 fn same_from(a: &[u8], b: &[u8], at: usize) -> bool
     requires { ⌜ length (now a) ≡ length (now b) ⌝ }
     ensures { λ r. ⌜ r ≡ sameName (drop at (now (a .entry))) (drop at (now (b .entry))) ⌝ }
@@ -52,7 +52,7 @@ fn same_from(a: &[u8], b: &[u8], at: usize) -> bool
     true
 }
 
-// Two names are the same: eight bytes at a time, then byte by byte.
+// Whether two names are the same: eight bytes at a time, then byte by byte.
 pub fn same_name(a: &[u8], b: &[u8]) -> bool
     ensures { λ r. ⌜ r ≡ sameName (now (a .entry)) (now (b .entry)) ⌝ }
 {
@@ -69,14 +69,14 @@ pub fn same_name(a: &[u8], b: &[u8]) -> bool
     same_from(a, b, i)
 }
 
-// A mode that is read in normal running.
+// Whether a store of this mode is read in normal running.
 pub fn is_readable(mode: u8) -> bool
     ensures { λ r. ⌜ r ≡ isReadable mode ⌝ }
 {
     mode <= READ_ONLY
 }
 
-// Where the names begin, of a table or a list of this many entries.
+// Where the names of a table or a list of this many entries begin.
 pub fn names_start(count: usize) -> usize
     requires { ⌜ count ≤ 64 ⌝ }
     ensures { λ r. ⌜ r ≡ namesStart count ⌝ }
@@ -114,7 +114,7 @@ fn sum_from(s: &[u8], at: usize, n: usize) -> usize
     total
 }
 
-// Whether n bytes from a position on are at most this one.
+// Whether n bytes from a position on are at most `most`.
 fn all_at_most(s: &[u8], at: usize, n: usize, most: u8) -> bool
     requires { ⌜ at + n ≤ length (now s) ⌝ }
     ensures { λ r. ⌜ r ≡ allAtMost most (take n (drop at (now (s .entry)))) ⌝ }

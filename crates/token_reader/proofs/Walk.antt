@@ -1,4 +1,4 @@
--- What the proofs by hand of `words::reader` share: how a walk of a function's MIR begins, calls a function that is proved, and ends, where nothing is said of a parameter at exit.
+-- What the proofs by hand of `token_reader` share: how a walk of a function's MIR begins, calls a function that is proved, and ends, where nothing is said of a parameter at exit.
 --     Known R          what a walk knows of a type: how a value's machine values are spelled, that the type's relation tells them, and that they have the MIR type
 --     apart, together  what a reader owns is what its text and its position own
 --     copies           an operand that is a copy of a local
@@ -66,7 +66,7 @@ lawfuls : {M : Type 1} (𝓤 : URA M) (H : Heap 𝓤) (A : Atoms 𝓤) → Given
 lawfuls 𝓤 H A W [] ks = tt
 lawfuls 𝓤 H A W (R ∷ Rs) ks = (ks .0 .lawful 𝓤 H A W, lawfuls 𝓤 H A W Rs (ks .1))
 
--- ---- the types of `words::reader`: a text is at the first lifetime, the class table at the second
+-- ---- the types of `token_reader`: a text is at the first lifetime, the class table at the second
 abbrev pub text : (κ : Lft) → Known (ShrSlice (named 0) κ u8)
 text κ = record { vals = slice-vals; tells = shr-slice-tells (named 0) κ u8; lawful = λ 𝓤 H A W. shr-slice-lawful 𝓤 H A W (named 0) κ u8 }
 
@@ -132,7 +132,7 @@ module _ {M : Type 1} (𝓤 : URA M) (H : Heap 𝓤) (A : Atoms 𝓤) (T : Ended
     abbrev holds : Result .Denot → Last → SProp 𝓤
     holds r ws = c (y .0 .0) (y .0 .3) .ensures (y .1) r (atExit T (y .0 .0) (y .0 .3) ws)
 
-    -- how a walk ends: the result and the tokens are had, and what the `ensures` says of the result
+    -- how a walk ends: the result and the tokens are held, and what the `ensures` says of the result
     abbrev pub Ends : Given 𝓤 H A → Type 1
     Ends W = (r : Result .Denot) (u : Val) (ws : Last) → Pure (last ws) × shadow (last ws) → ent 𝓤 (emp 𝓤) (holds r ws)
         → Seq (Go {0}) W (‵ (Result .own r (u ∷ [])) ∷ raw tokens ∷ []) (prop (triple .post y u))

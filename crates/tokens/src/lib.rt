@@ -12,7 +12,7 @@ use classes::class_end;
 use refusals::Refusal;
 use slices::mark_at;
 
-// A token: its place, and where the text goes on after it. A word has its part of the text, without its marks, between
+// A token: its place, and where the text continues after it. A word has its part of the text, without its marks, between
 // the two; a fault is the refusal 4, 5 or 6.
 pub enum Token {
     End {
@@ -48,7 +48,7 @@ pub enum Token {
     Fault(Refusal),
 }
 
-// Where the text goes on after a token, if it does.
+// Where the text continues after a token, if it does.
 pub enum Next {
     Off,
     To(usize),
@@ -68,7 +68,7 @@ pub fn word_of(text: &[u8], start: usize, end: usize) -> &[u8]
     &text[start..end]
 }
 
-// The quoted word whose opening mark stands at p.
+// The quoted word whose opening mark is at p.
 fn quoted_at(text: &[u8], p: usize, mark: u8) -> Token
     requires { ⌜ p < length (now text) ⌝ }
     ensures { λ r. ⌜ r ≡ quotedAt (now (text .entry)) p mark ⌝ }
@@ -90,7 +90,7 @@ fn quoted_at(text: &[u8], p: usize, mark: u8) -> Token
     }
 }
 
-// The bare word that begins at p: `and` and `or`, in any case of letters, are the signs.
+// The unquoted word that begins at p: `and` and `or`, in any case of letters, are the signs.
 pub fn unquoted_at(text: &[u8], p: usize, class: &[u8; 256]) -> Token
     requires { ⌜ (p < length (now text)) × IsClassTable (now class) ⌝ }
     ensures { λ r. ⌜ r ≡ unquotedAt (now (text .entry)) p ⌝ }
@@ -112,7 +112,7 @@ pub fn unquoted_at(text: &[u8], p: usize, class: &[u8; 256]) -> Token
     }
 }
 
-// The byte at p is followed by its like.
+// Whether the byte at p is followed by the same byte.
 pub fn doubled_at(text: &[u8], p: usize) -> bool
     requires { ⌜ p < length (now text) ⌝ }
     ensures { λ r. ⌜ r ≡ doubled (now (text .entry)) p ⌝ }

@@ -21,7 +21,7 @@ abbrev μ-loop : tie.MeasureT-loop
 loop-holds : tie.Need-loop-holds Inv-loop μ-loop
 loop-holds c = (fill-start _ _, refl, refl, refl)
 
--- the argument ends behind its beginning and within the text
+-- the argument ends after its beginning and within the text
 stop-in : (c : tie.After-mark-at Inv-loop μ-loop) → (c .before .before .loop .at ≤ c .mark-at .result) × (c .mark-at .result ≤ length (c .before .before .before .before .before .before .before .args .args .now))
 stop-in c = end-within (other 0) _ _ (omega arith) (c .mark-at .ensures)
 

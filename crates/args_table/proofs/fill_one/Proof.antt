@@ -1,4 +1,4 @@
--- `args_table::fill_one` meets its contract: what the argument gives is put behind the stores before. Assumes nothing.
+-- `args_table::fill_one` meets its contract: what the argument gives is written after the stores before it. Assumes nothing.
 use Prim.Native.Nat.{_≤_}
 use mathlib.Core.Path.{sym}
 use native.Mathlib.Omega.{arith}

@@ -1,4 +1,4 @@
--- `args_table::table_of` meets its contract: the five parts of the table are written one behind the other. Assumes nothing.
+-- `args_table::table_of` meets its contract: the five parts of the table are written one after another. Assumes nothing.
 use Prim.Native.Nat.{_≤_}
 use native.Mathlib.Omega.{arith}
 use borrow.Author.Needs.{needs}

@@ -10,7 +10,7 @@ use lib.ListN.{length, drop, getD, drop-of-length-le}
 use lib.Seq.{drop-cons}
 use Rattle.ascii.specs.Letters.{equalBy}
 
--- byte strings of two lengths differ
+-- byte strings of different lengths differ
 pub unlike : (f : ℕ → ℕ) (a b : List ℕ) → (length a ≡ length b → ⊥) → equalBy f a b ≡ false
 unfolding equalBy
 unlike f [] [] h = absurd (h refl)
@@ -29,10 +29,10 @@ module _ (f : ℕ → ℕ) (a b : List ℕ) (i : ℕ) where
     unfolding equalBy
     equal-at = rw (drop-cons a i 0 h, drop-cons b i 0 k)
 
-    -- at two bytes that are alike
+    -- at two bytes that are the same
     pub equal-on : eqb (f (getD a i 0)) (f (getD b i 0)) ≡ true → equalBy f (drop i a) (drop i b) ≡ equalBy f (drop (i + 1) a) (drop (i + 1) b)
     equal-on e = equal-at ∙ rw (e, add-one)
 
-    -- at two that are not
+    -- at two that differ
     pub equal-off : eqb (f (getD a i 0)) (f (getD b i 0)) ≡ false → equalBy f (drop i a) (drop i b) ≡ false
     equal-off e = equal-at ∙ rw e

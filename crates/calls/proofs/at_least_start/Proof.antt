@@ -1,4 +1,4 @@
--- `calls::at_least_start` meets its contract: by the word that is due, its count and the comma behind it. Assumes nothing.
+-- `calls::at_least_start` meets its contract: by the word that is expected, its count and the comma after it. Assumes nothing.
 use mathlib.Core.Path.{refl, sym, _∙_}
 use native.Mathlib.Omega.{arith}
 use Rattle.tokens.specs.Token.{nextOf}

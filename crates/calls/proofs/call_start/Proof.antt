@@ -1,4 +1,4 @@
--- `calls::call_start` meets its contract: each function as its own head has it. Assumes nothing.
+-- `calls::call_start` meets its contract: each function begins as its own contract says. Assumes nothing.
 use mathlib.Core.Path.{refl}
 use native.Mathlib.Omega.{arith}
 use Rattle.grammar.proofs.Laws.StartLaws.{begins-refused, begins-list}

@@ -1,4 +1,4 @@
--- `calls::older_than_start` meets its contract: by the word that is due, the bracket behind it and the duration. Assumes nothing.
+-- `calls::older_than_start` meets its contract: by the word that is expected, the bracket after it and the duration. Assumes nothing.
 use mathlib.Core.Path.{refl, sym, _∙_}
 use native.Mathlib.Omega.{arith}
 use Rattle.tokens.specs.Token.{nextOf}

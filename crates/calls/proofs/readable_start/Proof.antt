@@ -1,4 +1,4 @@
--- `calls::readable_start` meets its contract: by the word that is due, its count and the bracket behind it. Assumes nothing.
+-- `calls::readable_start` meets its contract: by the word that is expected, its count and the bracket after it. Assumes nothing.
 use mathlib.Core.Path.{refl, sym, _∙_}
 use native.Mathlib.Omega.{arith}
 use Rattle.tokens.specs.Token.{nextOf}

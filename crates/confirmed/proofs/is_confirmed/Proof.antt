@@ -1,4 +1,4 @@
--- `confirmed::is_confirmed` meets its contract: a store of this name has the mark that its name has, and else each entry is looked at. Assumes nothing.
+-- `confirmed::is_confirmed` meets its contract: where a store has the name, its mark tells; else each entry is looked at. Assumes nothing.
 use mathlib.Core.Path.{sym}
 use native.Mathlib.Omega.{arith}
 use borrow.Author.Needs.{needs}

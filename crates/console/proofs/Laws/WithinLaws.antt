@@ -1,4 +1,4 @@
--- What is put at the front of a buffer ends within it. Assumes nothing.
+-- What is written at the front of a buffer ends within it. Assumes nothing.
 use mathlib.Core.Path.{_≡_, sym, ap, _∙_}
 use mathlib.Core.List.{List}
 use Prim.Native.Nat.{ℕ, _≤_}

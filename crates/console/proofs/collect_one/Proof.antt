@@ -1,4 +1,4 @@
--- `console::collect_one` meets its contract: the argument has at most 267 bytes, and a 0 stands behind it. Assumes nothing.
+-- `console::collect_one` meets its contract: the argument has at most 267 bytes, and a 0 follows it. Assumes nothing.
 use mathlib.Core.Logic.{⊎-elim}
 use native.Mathlib.Omega.{arith}
 use borrow.Author.Needs.{needs}

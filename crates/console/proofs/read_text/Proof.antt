@@ -1,4 +1,4 @@
--- `console::read_text` meets its contract: a read puts no more than there is room for. Assumes nothing.
+-- `console::read_text` meets its contract: a read gives no more bytes than there is room for. Assumes nothing.
 use mathlib.Core.Path.{_≡_, ap}
 use Prim.Native.Nat.{_-_, _≤_}
 use native.Mathlib.Omega.{arith}

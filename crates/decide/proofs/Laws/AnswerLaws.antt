@@ -33,7 +33,7 @@ module _ (i s : List ℕ) (a : ℕ) (l : List ℕ) where
       pub refused-18 : {n : ℕ} → twinOf (entriesIn s) ≡ At n → Refused (refusal twinName n) ≡ decideOf i s a l
       refused-18 e = let (r, p) = isSome-true (decode i) image in sym (decide-18 i s a l p table e)
 
-      -- of which no two have one name
+      -- of which no two share a name
       module _ (lone : twinOf (entriesIn s) ≡ No) where
         pub refused-19 : isList l ≡ false → Refused (refusal badConfirmedList 0) ≡ decideOf i s a l
         refused-19 e = let (r, p) = isSome-true (decode i) image in sym (decide-19 i s a l p table lone e)

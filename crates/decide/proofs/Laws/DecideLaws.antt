@@ -37,7 +37,7 @@ module _ (i s : List ℕ) (a : ℕ) (l : List ℕ) where
       unfolding decideOf
       decide-18 e = rw (image, table, e)
 
-      -- of which no two have one name
+      -- of which no two share a name
       module _ (lone : twinOf (entriesIn s) ≡ No) where
         pub decide-19 : isList l ≡ false → decideOf i s a l ≡ Refused (refusal badConfirmedList 0)
         unfolding decideOf

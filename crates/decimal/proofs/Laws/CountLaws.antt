@@ -33,7 +33,7 @@ unfolding signEnd
 sign-off [] h e = refl
 sign-off (b ∷ w) h e = rw (ne-eqb b (code "+") e)
 
--- ---- "one or more digits" behind the sign
+-- ---- "one or more digits" after the sign
 module _ (w : List ℕ) {start : ℕ} (e : start ≡ signEnd w) where
   pub count-none : length w ≤ start → countOf w ≡ Invalid
   unfolding countOf
@@ -43,7 +43,7 @@ module _ (w : List ℕ) {start : ℕ} (e : start ≡ signEnd w) where
   unfolding countOf
   count-start h = rw (e, lt-ltb (signEnd w) (length w) (omega arith))
 
--- ---- the digits behind those of n: where n is too large already
+-- ---- the digits after those of n: where n is too large already
 pub count-over : (n : ℕ) (ds : List ℕ) → 2 ^ 64 ≤ n → countFrom n ds ≡ Invalid
 unfolding countFrom
 count-over n ds h = rw (le-ltb (decimalFrom n ds) (2 ^ 64) (omega (arith, decimal-ge n ds)), and-false (allDigits ds))

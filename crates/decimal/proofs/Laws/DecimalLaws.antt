@@ -39,7 +39,7 @@ unfolding decimalFrom
 decimal-ge n [] = omega arith
 decimal-ge n (b ∷ ds) = omega (arith, decimal-ge (n * 10 + digitValue b) ds)
 
--- ---- up to k digits behind those of n write a number below (n + 1) * 10^k
+-- ---- up to k digits after those of n write a number below (n + 1) * 10^k
 none-small : (k n : ℕ) → n < suc n * 10 ^ k
 none-small k n = omega (arith, mul-le-mul-left (suc n) (one-le-pow k 10 (omega arith)))
 
@@ -66,6 +66,6 @@ module _ (w : List ℕ) (at : ℕ) {to : ℕ} (e : runEnd isDigit w at ≡ to) (
       let r : to - at ≡ run isDigit (drop at w) = omega arith in
       rw r (run-small (drop at w) 9 0 (omega arith))
 
-  -- and so do the first of them, behind which the others write it
+  -- and so do the first of them: the others, read after those, write the same number
   pub head-small : (n i : ℕ) → decimalFrom n (part w i to) ≡ decimal (part w at to) → n < 10 ^ 9
   head-small n i q = omega (arith, decimal-ge n (part w i to), decimal-small)

@@ -1,4 +1,4 @@
--- Laws of a number's decimal digits: how many there are, the last one, the number that they write, and digits put into a text one by one. Assumes nothing.
+-- Laws of a number's decimal digits: how many there are, the last one, the number that they write, and digits written into a text one by one. Assumes nothing.
 use mathlib.Core.Path.{_≡_, refl, sym, ap, _∙_}
 use mathlib.Core.Bool.{Bool, true, false}
 use mathlib.Core.List.{List, [], _∷_, _++_, append-nil}
@@ -62,7 +62,7 @@ in-some f n =
     (λ l. rw (in-one f n l) (omega arith))
     (λ l. rw (in-last f n l, length-append) (omega arith))
 
--- the number that digits with one more behind them write
+-- the number that digits with one more after them write
 decimal-last : (n : ℕ) (ds : List ℕ) (b : ℕ) → decimalFrom n (ds ++ (b ∷ [])) ≡ decimalFrom n ds * 10 + digitValue b
 unfolding decimalFrom
 decimal-last n [] b = refl
@@ -92,7 +92,7 @@ pub digits-one : (n : ℕ) → n < 10 → digitsOf n ≡ digit n ∷ []
 unfolding digitsOf
 digits-one = in-one 19
 
--- the last one, behind those of a tenth of the number
+-- the last one, after those of a tenth of the number
 pub digits-last : (n : ℕ) → 10 ≤ n → n < 2 ^ 64 → digitsOf n ≡ digitsOf (n / 10) ++ (digit (n % 10) ∷ [])
 unfolding digitsOf
 digits-last n l h = rw (in-last 19 n l, in-more 18 (n / 10) (front-small 19 n (omega arith)))
@@ -106,7 +106,7 @@ digits-read n h = in-read 20 n (omega arith)
 pub digits-more : (n : ℕ) → 10 ≤ n → n < 2 ^ 64 → length (digitsOf n) ≡ length (digitsOf (n / 10)) + 1
 digits-more n l h = rw (digits-last n l h) (length-append (digitsOf (n / 10)) (digit (n % 10) ∷ []))
 
--- ---- the digits of n put into a text up to `end`, the last one first: those of `left` are not yet put, and those behind them stand from `at` on
+-- ---- the digits of n written into a text up to `end`, the last one first: those of `left` are still to be written, and the others are in the text from `at` on
 pub record PutBehind (n left : ℕ) (before after : List ℕ) (at end : ℕ) : Type 0 where
   pub digits : List ℕ
   pub put : WrittenAt before after at end digits

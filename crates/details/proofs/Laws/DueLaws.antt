@@ -1,4 +1,4 @@
--- What a refusal that judging gives tells: 3 to 15 are of a text of at most 2,048 bytes, and 18 has a store's index. Assumes nothing.
+-- What is known of a refusal that judging gives: 3 to 15 come from a text of at most 2,048 bytes, and 18 has a store's index. Assumes nothing.
 use mathlib.Core.Path.{_≡_, refl}
 use mathlib.Core.Bool.{Bool, true, false}
 use mathlib.Core.List.{List}

@@ -35,7 +35,7 @@ detail-none text es f o a b c d =
     let n = f .number in
     rw (outside 3 15 n o, ne-eqb n 18 a, ne-eqb n 20 b, ne-eqb n 21 c, ne-eqb n 22 d)
 
--- after k stores: the lines that are put, and those of the stores that are left
+-- after k stores: the lines that are written, and those of the stores that are left
 pub record Named (s a b : List ℕ) (at count k start end : ℕ) : Type 0 where
   pub stands : Standing s count k start
   pub done : List ℕ

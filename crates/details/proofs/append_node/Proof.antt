@@ -1,4 +1,4 @@
--- `details::append_node` meets its contract: the text is read into a buffer, and the node's name stands in the image there.
+-- `details::append_node` meets its contract: the text is read into a buffer, and the node's name is in the image there.
 -- Assumes nothing.
 use mathlib.Core.Path.{_≡_, refl, sym}
 use native.Mathlib.Omega.{arith}

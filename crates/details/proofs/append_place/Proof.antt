@@ -1,4 +1,4 @@
--- `details::append_place` meets its contract: the mark stands at the smaller of the place and the text's end. Assumes nothing.
+-- `details::append_place` meets its contract: the mark is at the smaller of the place and the text's end. Assumes nothing.
 use Prim.Native.Nat.{_≤_}
 use native.Mathlib.Nat.{min-eq-left, min-eq-right, le-of-lt}
 use native.Mathlib.Omega.{arith}

@@ -1,4 +1,4 @@
--- `details::append_write_only` meets its contract: after k stores the lines of the write-only ones among them are put. Assumes nothing.
+-- `details::append_write_only` meets its contract: after k stores the lines of the write-only ones among them are written. Assumes nothing.
 use mathlib.Core.Logic.{⊎-elim}
 use Prim.Native.Nat.{_+_, _-_, _≤_}
 use native.Mathlib.Omega.{arith}

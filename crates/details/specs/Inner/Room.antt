@@ -8,12 +8,12 @@ use Rattle.verdict.specs.declared.Verdict.{Verdict}
 use Rattle.verdict.specs.declared.Verdict.the-variants.{Refused}
 use Rattle.store_table.specs.Inner.Bounds.{TableInBounds}
 
--- what a refusal that judging gives tells: 3 to 15 are of a text of at most 2,048 bytes, and 18 has the index of one of 64 stores
+-- what is known of a refusal that judging gives: 3 to 15 come from a text of at most 2,048 bytes, and 18 has the index of one of 64 stores
 pub record Due (text : List ℕ) (f : Refusal) : Type 0 where
   pub short : 3 ≤ f .number → f .number ≤ 15 → length text ≤ 2048
   pub index : f .number ≡ 18 → f .place < 64
 
--- a page that has room behind a position for what there is to say of a refusal
+-- a page that has room after a position for what there is to say of a refusal
 pub record Room (page : List ℕ) (at : ℕ) (text stores : List ℕ) (f : Refusal) : Type 0 where
   pub laid : TableInBounds stores
   pub small : length stores ≤ 16_452

@@ -27,7 +27,7 @@ module _ (unit : List ℕ) where
   pub part-length : (k : ℕ) → k ≢ 0 → length (partText k unit) ≡ length (digitsOf k) + length unit
   part-length k e = rw (part-nonzero k e, length-append)
 
-  -- 20 digits at most
+  -- at most 20 digits
   pub part-short : (k : ℕ) → length (partText k unit) ≤ 20 + length unit
   unfolding partText
   part-short zero = omega arith
@@ -66,7 +66,7 @@ duration-parts (suc k) e = refl
 pub duration-length : (ms : ℕ) → ms ≢ 0 → length (durationText ms) ≡ length (daysText ms) + length (hoursText ms) + length (minutesText ms) + length (secondsText ms) + length (millisText ms)
 duration-length ms e = rw (duration-parts ms e) (simp length-append (omega arith))
 
--- 20 digits and a unit for each of five parts at most
+-- at most 20 digits and a unit for each of five parts
 pub duration-short : (ms : ℕ) → length (durationText ms) ≤ 110
 unfolding durationText
 duration-short zero = omega arith

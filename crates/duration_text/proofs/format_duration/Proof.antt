@@ -1,4 +1,4 @@
--- `duration_text::format_duration` meets its contract: the parts, prepend from the last to the first, are the text. Assumes nothing.
+-- `duration_text::format_duration` meets its contract: the parts, written from the last to the first, are the text. Assumes nothing.
 use native.Mathlib.Omega.{arith}
 use borrow.Author.Needs.{needs}
 use Rattle.slices.proofs.Laws.WrittenLaws.{put-before}
@@ -14,7 +14,7 @@ prepend-requires c κs =
 returns : tie.Need-returns
 returns c = rw (duration-zero _ (c .before .before .before .before .before .if1 .taken)) (c .before .before .prepend .ensures)
 
--- of a duration that is not zero: its text is as long as its parts, which are prepend one before the other
+-- of a duration that is not zero: its text is as long as its parts, each of which is written before the one written last
 prepend-part-requires : tie.Need-prepend-part-requires
 prepend-part-requires c κs = let e = c .before .before in omega (arith, duration-length (e .before .before .args .ms) (e .if1 .left))
 

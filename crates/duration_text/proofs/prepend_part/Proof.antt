@@ -1,4 +1,4 @@
--- `duration_text::prepend_part` meets its contract: the unit is prepend, and the digits before it. Assumes nothing.
+-- `duration_text::prepend_part` meets its contract: the unit is written, and the digits before it. Assumes nothing.
 use native.Mathlib.Omega.{arith}
 use borrow.Author.Needs.{needs}
 use Rattle.slices.proofs.Laws.WrittenLaws.{put-none, put-before}

@@ -39,7 +39,7 @@ module _ (b : ℕ) where
 pub last-rank : (rank : ℕ) → rank < length units → rank ≢ 0 → rank ≢ 1 → rank ≢ 2 → rank ≢ 3 → rank ≢ 4 → rank ≡ 5
 last-rank rank h n₀ n₁ n₂ n₃ n₄ = omega arith
 
--- no unit of these has more milliseconds
+-- none of these units has more milliseconds
 most : List NamedUnit → ℕ
 most [] = 0
 most (u ∷ us) = max (u .milliseconds) (most us)
@@ -90,7 +90,7 @@ module _ (u : NamedUnit) (w : List ℕ) (at : ℕ) where
       part-found l m h =
           rw (lt-ltb at (digitsEnd w at) (omega (arith, end-ge isDigit w at)), le-leb (digitsEnd w at) (at + 9) (omega arith), rw (e, b, d) at h, e, b, d)
 
--- what a part that is there keeps to
+-- the bounds of a part that is there
 module _ (u : NamedUnit) (w : List ℕ) (at : ℕ) {n next : ℕ} (q : partAt u w at ≡ Of n next) where
   part-is : (isPart u w at ≡ true) × (amountOf u w at ≡ n) × (nextPart w at ≡ next)
   part-is = go (isPart u w at) refl
@@ -128,7 +128,7 @@ unfolding durationOf
 parts-start w e = plus-zero _ ∙ ap (partsFrom units w) e
 
 module _ (total : ℕ) (w : List ℕ) (at rank : ℕ) where
-  -- behind the last unit
+  -- after the last unit
   pub parts-end : length units ≤ rank → plus total (partsFrom (drop rank units) w at) ≡ Invalid
   unfolding partsFrom
   parts-end h = rw (drop-of-length-le units h)
@@ -143,10 +143,10 @@ module _ (total : ℕ) (w : List ℕ) (at rank : ℕ) where
     parts-skip e = ap (plus total) (parts-at e)
 
     module _ {n next : ℕ} (e : partAt (unitAt rank) w at ≡ Of n next) where
-      -- one that the word ends behind
+      -- one at whose end the word ends
       pub parts-last : length w ≤ next → plus total (partsFrom (drop rank units) w at) ≡ Value (total + n)
       parts-last l = rw (parts-at e, le-ltb next (length w) l)
 
-      -- and one that it goes on behind
+      -- and one after which the word continues
       pub parts-on : next < length w → plus total (partsFrom (drop rank units) w at) ≡ plus (total + n) (partsFrom (drop (rank + 1) units) w next)
       parts-on l = rw (parts-at e, lt-ltb next (length w) l) (plus-plus total n (partsFrom (drop (rank + 1) units) w next))

@@ -1,4 +1,4 @@
--- Leaf answers by index, where they are a world's, are a rule's own. Assumes nothing.
+-- Leaf answers by index, where they are those of an environment, are what the rule's own leaves say. Assumes nothing.
 use mathlib.Core.Path.{_≡_, refl}
 use mathlib.Core.Bool.{Bool}
 use mathlib.Core.List.{List}

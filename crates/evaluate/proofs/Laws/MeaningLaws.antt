@@ -43,7 +43,7 @@ module _ (s : List ℕ) (n : ℕ) where
         let q : l ≡ readable a = cc in
         rw q
 
-  -- a combinator over children of whom y say evict, by its kind
+  -- a combinator over children of which y say evict, by its kind
   module _ {k : ℕ} (a : ℕ) (j : Join) (bs : List Bool) (e : meaning s n k a ≡ aJoin j) {y : ℕ} (h : countTrue bs ≡ y) where
     pub kind-atLeast : k ≡ atLeastKind → leb a y ≡ joinSays j bs
     unfolding meaning

@@ -63,7 +63,7 @@ join-up any {xs} {ys} g e =
 
 -- ---- rules
 
--- from one world to another: those of some names that are confirmed in the first are in the second
+-- from one environment to another: those of some names that are confirmed in the first are confirmed in the second
 abbrev pub Kept : Env → Env → List (List ℕ) → Type 0
 Kept u v ws = (w : List ℕ) → List·Memᴰ w ws → has w (u .names) ≡ true → has w (v .names) ≡ true
 

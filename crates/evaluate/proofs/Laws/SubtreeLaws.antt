@@ -1,4 +1,4 @@
--- decide's SubtreeLaws over leaf answers by index: the walk over a combinator's children knows no world and no reading. Assumes nothing.
+-- The walk over a combinator's children, where the answer of each leaf is known by its node's index. Assumes nothing.
 use mathlib.Core.Path.{_≡_, sym, _∙_}
 use mathlib.Core.Bool.{Bool, true, false, cond}
 use mathlib.Core.List.{List, _∷_}
@@ -20,13 +20,13 @@ unfolding countTrue
 yeses-moved true bs y z e = omega arith
 yeses-moved false bs y z e = omega arith
 
--- a count goes up by one at most
+-- a count goes up by at most one
 pub moved-few : (b : Bool) {y z : ℕ} → z ≡ cond b (suc y) y → z ≤ suc y
 moved-few true e = omega arith
 moved-few false e = omega arith
 
--- of the rules rs and r, `rest` are not yet asked, and stand from `from` up to `end`; in each world that
--- counts, y of the t asked say evict
+-- of the rules rs and r, those of `rest` have not been asked yet, and their nodes are those from `from` up to `end`; of the t
+-- that were asked, y say evict
 pub record Walk (f : ℕ → Cell) (g : ℕ → Bool) (from end y t : ℕ) (rs : Rules) (r : Rule) (rest : Rules) : Type 0 where
   pub standing : EncodedAllAt rest f from
   pub ends : from + sizes rest ≡ end
@@ -38,14 +38,14 @@ abbrev pub Walks : (ℕ → Cell) → (ℕ → Bool) → ℕ → ℕ → ℕ →
 Walks f g from k end y t =
     (j : Join) (rs : Rules) (r : Rule) → size (node j rs r) ≡ k → EncodedAt (node j rs r) f from → (rest : Rules) × Walk f g from end y t rs r rest
 
--- the last rule that is not yet asked
+-- the last rule that has not been asked yet
 pub record Last (f : ℕ → Cell) (from end : ℕ) : Type 0 where
   pub before : Rules
   pub child : Rule
   pub stands : EncodedAt child f (from + sizes before)
   pub ends : from + sizes before + size child ≡ end
 
--- an answer is that of whatever rule has the k cells from `from` on, in each world that counts
+-- an answer is that of whatever rule has the k cells from `from` on
 abbrev pub Answered : (ℕ → Cell) → (ℕ → Bool) → ℕ → ℕ → Bool → Type 0
 Answered f g from k b = (r : Rule) → size r ≡ k → EncodedAt r f from → b ≡ evictBy g r from
 
@@ -131,7 +131,7 @@ module _ (f : ℕ → Cell) (g : ℕ → Bool) (from k : ℕ) where
   one-done one says (leaf l) e st = says
   one-done one says (node j rs r) e st = absurd (omega (arith, size-pos r))
 
--- the last rule's size is what the cell before `end` says, and it stands there
+-- the last rule's size is what the cell before `end` says, and its cells are there
 module _ {f : ℕ → Cell} {from end : ℕ} (l : Last f from end) {z : ℕ} (says : z ≡ f (end - 1) .size) where
   pub last-size : z ≡ size (l .child)
   last-size =

@@ -33,7 +33,7 @@ ascii-below b e = go (ltb b 128) refl
     go true q = refl
     go false q = rw (class-foreign b (ltb-false b 128 q)) at e
 
--- a text that the run of its ASCII bytes goes to the end of
+-- a text that is one run of ASCII bytes up to its end
 run-ascii : (s : List ℕ) → length s ≤ run ascii s → allAscii s ≡ true
 unfolding run allAscii
 run-ascii [] h = refl

@@ -1,4 +1,4 @@
--- What the grammar reads leaves fewer tokens, with calls enough their bound does not matter, and the equations of the grammar
+-- What the grammar reads leaves fewer tokens; given enough calls, their bound does not matter; and the equations of the grammar
 -- that name no bound. Assumes nothing.
 use mathlib.Core.Path.{_≡_, refl, sym, ap, _∙_}
 use mathlib.Core.List.{List}
@@ -50,7 +50,7 @@ module _ (s : List ℕ) where
   pub primary-fewer : (f d : ℕ) (ts : List Token) {r : Rule} {us : List Token} → primaryIn f s d ts ≡ got r us → length us < length ts
   primary-fewer f d ts e = made-fewer s ts (primaryIn f s d ts) (primary-made s f d ts) e
 
-  -- a chain's operand leaves at most these, and so does what goes on behind it
+  -- a chain's operand leaves at most these, and so does what follows it
   turn-left : (k : ℕ) (j : Join) (operand : List Token → ParseResult) (again : ParseResult → ParseResult) → Sign k → ((vs : List Token) → Holds (MadeRule s vs) (operand vs)) → ((g : ParseResult) → leftOf (again g) ≤ leftOf g) → (l : Rule) (us : List Token) → leftOf (onRest (after k us) (λ vs. again (onto j l (operand vs))) (got l us)) ≤ length us
   turn-left k j operand again p m h l us =
       on-rest (λ g. leftOf g ≤ length us) k us _ (got l us) p
@@ -78,7 +78,7 @@ module _ (s : List ℕ) where
       (λ vs t. omega (arith, list-left f d j (more rs r) (orIn f s (d + 1) vs), made-left s vs (orIn f s (d + 1) vs) (or-made s f (d + 1) vs)))
       (on-rest (λ g. leftOf g ≤ length us) closeBracket us _ _ (omega arith) (λ vs t. omega arith) (omega arith))
 
--- ---- with calls enough their bound does not matter
+-- ---- given enough calls, their bound does not matter
 head-same : (h : PrimaryStart) (i i′ : List Token → ParseResult) (l l′ : Join → List Token → ParseResult) → ((us : List Token) → headRest h ≡ rest us → i us ≡ i′ us) → ((j : Join) (us : List Token) → headRest h ≡ rest us → l j us ≡ l′ j us) → byStart h i l ≡ byStart h i′ l′
 head-same (aLeaf x us) i i′ l l′ p q = refl
 head-same (aGroup us) i i′ l l′ p q = ap closeAfter (p us refl)
@@ -89,7 +89,7 @@ rest-same : (k : ℕ) (us : List Token) (x y : List Token → ParseResult) (o : 
 rest-same k us x y o p h = by-after (λ r. onRest r x o ≡ onRest r y o) k us p refl (λ vs t. h vs (t .fewer))
 
 module _ (s : List ℕ) where
-  -- what goes on behind what was read of ts
+  -- what follows what was read of ts
   then-same : (ts : List Token) (x y : ParseResult) (a b : ParseResult → ParseResult) → Holds (MadeRule s ts) x → x ≡ y → ((g : ParseResult) → leftOf g ≤ length ts - 1 → a g ≡ b g) → a x ≡ b y
   then-same ts x y a b m e q = q x (made-left s ts x m) ∙ ap b e
 
@@ -235,7 +235,7 @@ module _ (s : List ℕ) (d : ℕ) where
     pub and-on : {vs : List Token} → after ampersand us ≡ rest vs → andRest s d (got l us) ≡ andRest s d (onto all l (primaryOf s d vs))
     and-on e = and-step ∙ rw e
 
-  -- an argument of a list, and what goes on behind it
+  -- an argument of a list, and what follows it
   args-same : (f : ℕ) (j : Join) (rs : Rules) (us : List Token) → 3 * length us + 3 ≤ f → listMore f s d j rs (orIn f s (d + 1) us) ≡ listRest s d j rs (orOf s (d + 1) us)
   args-same f j rs us h =
       then-same s us (orIn f s (d + 1) us) (orOf s (d + 1) us) (listMore f s d j rs) (listRest s d j rs) (or-made s f (d + 1) us)

@@ -54,7 +54,7 @@ module _ (s : List ℕ) where
       (λ vs t. q (onto j l (x vs)) (omega (arith, onto-left j l (x vs), made-left s vs (x vs) (m vs))) (onto-number j l (x vs) (e vs (t .fewer))))
       tt
 
-  -- with calls enough, so that none ends for want of them
+  -- given enough calls, so that none ends for lack of them
   mutual
     unfolding orIn
 

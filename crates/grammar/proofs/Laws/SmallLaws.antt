@@ -18,7 +18,7 @@ use Rattle.decimal.specs.Count.{allDigits, countFrom, signEnd, countOf}
 use Rattle.durations.specs.Duration.{NamedUnit, unit, units, partAt, plus, partThen, partsFrom, durationOf}
 use Rattle.durations.proofs.Laws.DurationLaws.{partMost, part-small}
 
--- a number that is read is at most so much
+-- a number that is read is at most this much
 abbrev UpTo : ℕ → Parsed → Type 0
 UpTo m (Value n) = n ≤ m
 UpTo m Invalid = Unit {0}

@@ -1,4 +1,4 @@
--- Laws of how a primary begins: what an answer of the program keeps to, the head by the token that stands there, the test of
+-- Laws of how a primary begins: the bounds of the program's answer, the answer by the token that is there, the test of
 -- the depth, and the function that a word names. Assumes nothing.
 use Prim.Native.Nat.{ℕ, _+_, _-_, _≤_, _<_}
 use Prim.Native.String.{String}
@@ -31,8 +31,8 @@ use Rattle.grammar.specs.declared.Function.the-variants.{OlderThan, Read
 use Rattle.grammar.specs.declared.PrimaryStart.{PrimaryStart}
 use Rattle.grammar.specs.declared.PrimaryStart.the-variants.{Name, Leaf, Group, List as Listed, Refused}
 
--- ---- what an answer keeps to, by its variant
--- the text goes on at n, which lies at `lo` or behind it, with at most `most` tokens left
+-- ---- the bounds of an answer, by its variant
+-- the text continues at n, which is `lo` or later, with at most `most` tokens left
 abbrev pub Goes : List ℕ → ℕ → ℕ → ℕ → Type 0
 Goes s lo most n = (lo ≤ n) × (n ≤ length s) × (left s n ≤ most)
 
@@ -78,7 +78,7 @@ module _ {s : List ℕ} {low lo most : ℕ} {g : grammar.PrimaryStart} where
         name = λ a e n q. let w = b .name a e n q in omega arith;
       }
 
--- ---- the head by the token that stands there
+-- ---- how a primary begins, by the token that is there
 -- neither a bracket nor a word
 none-by : (s : List ℕ) (d : ℕ) (t : Token) (ts : List Token) → (tokenKind t ≡ openBracket → ⊥) → (tokenKind t ≡ 6 → ⊥) → startBy s d t ts ≡ refuse noExpression (placeOf t)
 unfolding placeOf
@@ -105,7 +105,7 @@ module _ (s : List ℕ) (d at : ℕ) {t : Token} (e : tokenAt s at ≡ t) where
   unfolding primaryStart
   head-next h = ap (primaryStart s d) (tokens-next s at e h)
 
--- ---- the test whether 64 brackets stand open: of d against a bound k
+-- ---- the test whether 64 brackets are open: of d against a bound k
 module _ {d k : ℕ} where
   pub too-deep : k ≤ d → 64 ≤ k → ltb d 64 ≡ false
   too-deep many bound = le-ltb d 64 (omega arith)
@@ -165,6 +165,6 @@ module _ {s : List ℕ} (at : ℕ) {low : ℕ} {h : PrimaryStart} {g : grammar.P
   pub head-is : {h′ : PrimaryStart} → h ≡ h′ → g ≡ headOf s h′
   head-is e = sym (b .says) ∙ ap (headOf s) e
 
-  -- where the text goes on
+  -- where the text continues
   pub head-ahead : {n : ℕ} → headNext h ≡ To n → (at < n) × (n ≤ length s) × (left s n < left s at)
   head-ahead {n} e = let l = b .on n e in omega (arith, left-some s at)

@@ -1,5 +1,5 @@
--- What the grammar takes of a list of tokens: no fault, fewer are left, each node of the rule had a token of its own that is not
--- the end, each byte of its names stands in a word, and 8 bytes hold its numbers. A primary that does not begin is refused with a
+-- What the grammar takes of a list of tokens: no fault, and fewer are left; each node of the rule had a token of its own that is
+-- not the end, each byte of its names is in a word, and 8 bytes hold its numbers. A primary that does not begin is refused with a
 -- number among 2 to 15. Assumes nothing.
 use mathlib.Core.Path.{_≡_, refl}
 use mathlib.Core.Bool.{Bool, true, false, cond}
@@ -206,7 +206,7 @@ module _ {s : List ℕ} where
   behind : {ts us vs : List Token} {x : ℕ} {ws : List ℕ} {S : Type 0} → Taken ts us 1 0 → Made s us vs x ws S → Made s ts vs x ws S
   behind t m = record { taken = omega arith; ascii = m .ascii; small = m .small }
 
-  -- and a token behind them
+  -- and a token after them
   before : {ts us vs : List Token} {x z : ℕ} {ws : List ℕ} {S : Type 0} → z ≤ x + 1 → Made s ts us x ws S → Taken us vs 1 0 → Made s ts vs z ws S
   before l m t = record { taken = omega arith; ascii = m .ascii; small = m .small }
 
@@ -243,7 +243,7 @@ module _ {s : List ℕ} where
   unfolding chain
   chain-made j l r h m t n = node-made j (leftRules j l) r h (both (omega arith) (left-made j l m) t n)
 
--- ---- what is read keeps to P
+-- ---- what is read satisfies P
 abbrev pub Holds : (Rule → List Token → Type 0) → ParseResult → Type 0
 Holds P (got r us) = P r us
 Holds P (bad f) = Unit {0}

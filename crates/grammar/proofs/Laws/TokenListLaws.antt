@@ -17,7 +17,7 @@ use Rattle.grammar.specs.Grammar.{tokenKind, rest, missing, after, first
 use Rattle.classes.specs.Class.{comma, closeBracket}
 use Rattle.grammar.specs.Inner.Starts.{left}
 
--- the rest of the tokens, where the text goes on after the first
+-- the rest of the tokens, where the text continues after the first
 after-onward : (k : ℕ) (t : Token) (n : Next) (more : ℕ → List Token) → (tokenKind t ≡ k → ⊥) → after k (onward t n more) ≡ missing
 unfolding after
 after-onward k t Off more h = rw (ne-eqb (tokenKind t) k h)
@@ -28,7 +28,7 @@ unfolding firstPlace
 place-onward t Off more = refl
 place-onward t (To n) more = refl
 
--- a word is expected, and another token stands there
+-- a word is expected, and another token is there
 undue-by : (s : List ℕ) (t : Token) (ts : List Token) → (tokenKind t ≡ 6 → ⊥) → expectedBy s t ts ≡ otherToken (placeOf t)
 unfolding placeOf
 undue-by s (End p) ts h = refl
@@ -55,7 +55,7 @@ module _ (s : List ℕ) (at : ℕ) {t : Token} (e : tokenAt s at ≡ t) where
   pub word-undue : (tokenKind t ≡ 6 → ⊥) → expectedWord s (tokensFrom s at) ≡ otherToken (placeOf t)
   word-undue h = ap (expectedWord s) (tokens-are s at e) ∙ undue-onward s t (nextOf t) (tokensFrom s) h
 
-  -- the text goes on after it
+  -- the text continues after it
   module _ {n : ℕ} (h : nextOf t ≡ To n) where
     pub tokens-next : tokensFrom s at ≡ t ∷ tokensFrom s n
     tokens-next = tokens-are s at e ∙ ap (λ (x : Next). onward t x (tokensFrom s)) h
@@ -76,7 +76,7 @@ module _ (s : List ℕ) (at : ℕ) {p a b n : ℕ} where
   pub word-part : {q : _} → tokenAt s at ≡ Word p a b q n → (at ≤ p) × (p ≤ a) × (a ≤ b) × (b ≤ n) × (n ≤ length s)
   word-part e = let l = subst (Lexed (length s) at) e (lexed s at) in omega arith
 
--- a sign stands there, and the text goes on at n
+-- a sign is there, and the text continues at n
 pub record Signed (s : List ℕ) (at k n : ℕ) : Type 0 where
   pub sign : after k (tokensFrom s at) ≡ rest (tokensFrom s n)
   pub bounds : (at < n) × (n ≤ length s) × (left s n < left s at)

@@ -1,4 +1,4 @@
--- The grammar of rules with no bound on its calls: each function with as many as the tokens can want, which is three for each
+-- The grammar of rules with no bound on its calls: each function gets as many as the tokens can need, which is three for each
 -- token and its level. Assumes nothing.
 use Prim.Native.Nat.{ℕ, _+_, _*_}
 use mathlib.Core.List.{List}
@@ -14,7 +14,7 @@ headRest (aGroup ts) = rest ts
 headRest (aList j place ts) = rest ts
 headRest (refused f) = missing
 
--- how many are left behind a rule
+-- how many are left after a rule
 abbrev pub leftOf : ParseResult → ℕ
 leftOf (got r ts) = length ts
 leftOf (bad f) = 0
@@ -28,7 +28,7 @@ andOf s d ts = andIn (3 * length ts + 2) s d ts
 unfoldable pub primaryOf : List ℕ → ℕ → List Token → ParseResult
 primaryOf s d ts = primaryIn (3 * length ts + 1) s d ts
 
--- what goes on behind a rule: a chain of or, a chain of and, the arguments of a list
+-- what follows a rule: a chain of or, a chain of and, the arguments of a list
 unfoldable pub orRest : List ℕ → ℕ → ParseResult → ParseResult
 orRest s d g = orMore (3 * leftOf g + 1) s d g
 

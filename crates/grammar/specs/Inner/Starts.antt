@@ -1,4 +1,4 @@
--- How the program's answer to the question how a primary begins is read, and what its numbers keep to. Assumes nothing.
+-- How the program's answer to how a primary begins is read, and the bounds of its numbers. Assumes nothing.
 use Prim.Native.Nat.{ℕ, _≤_}
 use mathlib.Core.Path.{_≡_}
 use mathlib.Core.List.{List}
@@ -26,7 +26,7 @@ joinOf (AtLeast k) = atLeast k
 joinOf All = all
 joinOf Any = any
 
--- the answer as the grammar has it: a position stands for the tokens from there on
+-- the answer as the grammar has it: a position represents the tokens from there on
 abbrev pub headOf : List ℕ → PrimaryStart → grammar.PrimaryStart
 headOf s (Name a b n) = grammar.aLeaf (named (part s a b)) (tokensFrom s n)
 headOf s (Tested t n) = grammar.aLeaf (leafOf t) (tokensFrom s n)
@@ -34,7 +34,7 @@ headOf s (Group n) = grammar.aGroup (tokensFrom s n)
 headOf s (Listed c p n) = grammar.aList (joinOf c) p (tokensFrom s n)
 headOf s (Refused f) = grammar.refused f
 
--- where the text goes on
+-- where the text continues
 abbrev pub headNext : PrimaryStart → Next
 headNext (Name a b n) = To n
 headNext (Tested t n) = To n
@@ -46,8 +46,8 @@ headNext (Refused f) = Off
 abbrev pub left : List ℕ → ℕ → ℕ
 left s at = length (tokensFrom s at)
 
--- The answer says what the grammar has. The text goes on at `lo` or behind it, with at most `most` tokens left; a name stands
--- at `low` or behind it.
+-- The answer says what the grammar has. The text continues at `lo` or later, with at most `most` tokens left; a name begins
+-- at `low` or later.
 pub record Begins (s : List ℕ) (low lo most : ℕ) (h : PrimaryStart) (g : grammar.PrimaryStart) : Type 0 where
   pub says : headOf s h ≡ g
   pub on : (n : ℕ) → headNext h ≡ To n → (lo ≤ n) × (n ≤ length s) × (left s n ≤ most)

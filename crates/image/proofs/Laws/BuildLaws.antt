@@ -21,7 +21,7 @@ pub bind-some : {A B : Type 0} (o : Option A) (f : A → Option B) {b : B} → b
 bind-some none f e = absurd (Option·none-ne-some _ e)
 bind-some (some a) f e = (a, refl, e)
 
--- the rules ps, and rs behind them
+-- the rules ps, and rs after them
 unfoldable pub chain : Rules → Rules → Rules
 chain ps nil = ps
 chain ps (more rs r) = more (chain ps rs) r
@@ -61,7 +61,7 @@ chain-split (more rs r) (suc m) p e =
     let l = leb-true (size r) (suc m) t in
     rw q (ap (λ (x : Rules). more x r) c, omega arith)
 
--- a combinator over rs and r, which stand behind ps
+-- a combinator over rs and r, which come after ps
 pub close-chain : (j : Join) (ps rs : Rules) (r : Rule) → close j (more (chain ps rs) r) (sizes rs + size r) ≡ some (more ps (node j rs r))
 unfolding close
 close-chain j ps rs r =
@@ -86,7 +86,7 @@ closed j (more rs r) m out e =
     let l = leb-true (size r) m t in
     record { before = p .0; children = p .1; child = r; was = ap (λ (x : Rules). more x r) (sym c); sized = omega arith; becomes = cc }
 
--- what rules behind one another have, stands behind one another
+-- what rules one after another have: the sizes add up, and tags, arguments and names follow one another
 pub sizes-chain : (ps rs : Rules) → sizes (chain ps rs) ≡ sizes ps + sizes rs
 unfolding chain size
 sizes-chain ps nil = omega arith

@@ -22,7 +22,7 @@ use Rattle.image.proofs.Laws.NameRunLaws.{next-le}
 use Rattle.image.proofs.Laws.TestLaws.{sized-true, ends-some, only-some}
 
 module _ (s : List ℕ) (n m : ℕ) (bytes : AllBytes s) (long : length s ≡ 4 + 12 * n + m) where
-  -- a node that is read is laid
+  -- a node that is read has its tag, argument and name at their places
   node-laid : (i t k z a : ℕ) (ws : List ℕ) → i < n → nodeAt s n i .kind ≡ k → nodeAt s n i .size ≡ z → nodeAt s n i .arg ≡ a → Has s (4 + 12 * n + t) ws → Laid s n i t (tag k z ∷ []) (a ∷ []) ws
   unfolding nodeAt packed
   node-laid i t k z a ws lt p q e h =
@@ -79,7 +79,7 @@ module _ (s : List ℕ) (n m : ℕ) (bytes : AllBytes s) (long : length s ≡ 4 
     ends : length (namesAll rs) ≡ t
     small : SmallAll rs
 
-  -- one node more behind them
+  -- one node more after them
   node-taken : (i t k z a : ℕ) (rs : Rules) (ws : List ℕ) → i < n → nodeAt s n i .kind ≡ k → nodeAt s n i .size ≡ z → nodeAt s n i .arg ≡ a → Has s (4 + 12 * n + t) ws → Taken i t rs → Laid s n 0 0 (tagsAll rs ++ (tag k z ∷ [])) (argsAll rs 0 ++ (a ∷ [])) (namesAll rs ++ ws)
   node-taken i t k z a rs ws lt p q e w h =
       let x = length-tagsAll rs in

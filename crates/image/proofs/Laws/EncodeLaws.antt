@@ -58,7 +58,7 @@ pub record Laid (s : List ℕ) (n i t : ℕ) (ts xs ws : List ℕ) : Type 0 wher
   pub args : Has s (4 + 4 * n + 8 * i) (packed 8 xs)
   pub names : Has s (4 + 12 * n + t) ws
 
--- some nodes and their names, up to node j and name byte u, and others behind them
+-- some nodes and their names, up to node j and name byte u, and others after them
 module _ (s : List ℕ) (n i j t u : ℕ) (ts us xs ys ws vs : List ℕ) (few : i + length ts ≡ j) (same : i + length xs ≡ j) (short : t + length ws ≡ u) where
   to-tags : 4 + 4 * i + length (packed 4 ts) ≡ 4 + 4 * j
   to-tags = rw length-packed (omega arith)

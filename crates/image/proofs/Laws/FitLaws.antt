@@ -1,4 +1,4 @@
--- The walk back over the rules that the first nodes make, and whether a node goes on from them. Assumes nothing.
+-- The walk back over the rules that the first nodes make, and whether a node can follow them. Assumes nothing.
 use mathlib.Core.Path.{_≡_, refl, sym, ap, _∙_}
 use mathlib.Core.Bool.{Bool, true, false}
 use mathlib.Core.List.{List}
@@ -180,7 +180,7 @@ module _ (s : List ℕ) (n : ℕ) where
   unfolding cellAt
   cell-size i e = ap (λ (x : Node). x .size) e
 
-  -- whether node i, as it was read, goes on from the rules that the nodes before it make
+  -- whether node i, as it was read, can follow the rules that the nodes before it make
   module _ (i : ℕ) {d : Node} (e : d ≡ nodeAt s n i) (ready : isSome (build (cellAt s n) i) ≡ true) where
     fits-when : (w : Meaning) (b : Bool) → meaning s n (d .kind) (d .arg) ≡ w → ((rs : Rules) → build (cellAt s n) i ≡ some rs → isSome (place w (d .size) rs) ≡ b) → b ≡ isSome (build (cellAt s n) (suc i))
     unfolding build cellAt

@@ -38,7 +38,7 @@ module _ (s : List ℕ) (bytes : AllBytes s) where
   pub decode-encode : (r : Rule) → (decode s ≡ some r) ↔ (Fits r × (s ≡ encode r))
   decode-encode r = (λ e. (decoded-fits s r bytes e, decoded-image s r bytes e), λ h. ap decode (h .1) ∙ image-decodes r (h .0))
 
-  -- and as some rule, so that 16 is not due, exactly if a rule that fits has them as its image
+  -- and as some rule, so that 16 is not the answer, exactly if a rule that fits has them as its image
   pub is-image : (isSome (decode s) ≡ true) ↔ ((r : Rule) × Fits r × (s ≡ encode r))
   is-image = (to, λ h. ap isSome (decode-encode (h .0) .1 (h .1, h .2)))
     where

@@ -1,4 +1,4 @@
--- The rule that an image decodes to stands in the image's nodes, and its names lie inside. Assumes nothing.
+-- The rule that an image decodes to has the image's nodes as its cells, and its names lie inside. Assumes nothing.
 use mathlib.Core.Path.{_≡_}
 use mathlib.Core.Bool.{true}
 use mathlib.Core.List.{List}

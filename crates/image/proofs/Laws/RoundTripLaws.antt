@@ -55,7 +55,7 @@ leaf-below (olderThan d) t h k = h
 leaf-below (readable d) t h k = h
 
 module _ (s : List ℕ) (n : ℕ) where
-  -- a node that is laid is read
+  -- a node with its tag, argument and name at their places is read
   node-at : (i t k z a : ℕ) (ws : List ℕ) → k < 256 → z ≤ 2048 → a < 2 ^ 64 → Laid s n i t (tag k z ∷ []) (a ∷ []) ws → nodeAt s n i ≡ record { kind = k; size = z; arg = a }
   unfolding nodeAt packed
   node-at i t k z a ws k-lt z-le a-lt l =

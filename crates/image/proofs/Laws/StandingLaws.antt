@@ -1,4 +1,4 @@
--- What `build` makes of the first nodes stands in them, and no other rule stands in the same cells. Assumes nothing.
+-- What `build` makes of the first nodes has them as its cells, and no other rule has the same cells. Assumes nothing.
 use mathlib.Core.Path.{_≡_, refl, sym, ap, _∙_}
 use mathlib.Core.Option.{some, Option·none-ne-some}
 use Prim.Native.Nat.{ℕ, zero, suc, _+_, _-_}
@@ -21,14 +21,14 @@ root-size (node j rs r) f s st =
     let e : s + suc (sizes rs + size r) - 1 ≡ s + sizes rs + size r = omega arith in
     rw e (st .3)
 
--- rules that end at one cell are of one size, for that cell says it
+-- rules that end at the same cell are of the same size, for that cell says it
 same-last : (r q : Rule) (f : ℕ → Cell) (s m k : ℕ) → EncodedAt r f (s + m) → EncodedAt q f (s + k) → m + size r ≡ k + size q → (size r ≡ size q) × (m ≡ k)
 same-last r q f s m k x y e =
     let a : s + m + size r - 1 ≡ s + k + size q - 1 = omega arith in
     let b : size r ≡ size q = sym (rw a at (root-size r f (s + m) x)) ∙ root-size q f (s + k) y in
     (b, omega arith)
 
--- two rules of one size that stand in the same cells are the same
+-- two rules of the same size with the same cells are the same
 mutual
   unfolding size EncodedAt
 
@@ -55,7 +55,7 @@ mutual
       let d = one-rule r q f (s + sizes qs) a (rw b at (x .1)) (y .1) in
       cc
 
--- of rules that stand behind one another: those before, and those behind
+-- of rules one after another: the first ones, and those after them
 stand-chain : (f : ℕ → Cell) (s : ℕ) (ps rs : Rules) → EncodedAllAt (chain ps rs) f s → EncodedAllAt ps f s × EncodedAllAt rs f (s + sizes ps)
 unfolding chain EncodedAt
 stand-chain f s ps nil h = (h, tt)

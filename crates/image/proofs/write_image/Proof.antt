@@ -1,4 +1,4 @@
--- `image::write_image` meets its contract: the parts are written one behind the other. Assumes nothing.
+-- `image::write_image` meets its contract: the parts are written one after another. Assumes nothing.
 use mathlib.Core.Path.{_≡_, refl, _∙_}
 use mathlib.Core.List.{List, _++_, append-assoc}
 use Prim.Native.Nat.{ℕ, _+_, _*_}

@@ -15,7 +15,7 @@ pub record Subtree (f : ℕ → Cell) (from k : ℕ) : Type 0 where
   pub sized : size rule ≡ k
   pub stands : EncodedAt rule f from
 
--- the name that an argument tells of lies inside an image of n nodes
+-- the name that an argument gives lies inside an image of n nodes
 abbrev pub NameInside : List ℕ → ℕ → ℕ → Type 0
 NameInside s n arg = namesStart n + nameStart arg + nameLength arg ≤ length s
 

@@ -1,4 +1,4 @@
--- `image_test::node_fits` meets its contract: by its kind and argument a node is a leaf, a combinator or nothing, and goes on if its size allows it.
+-- `image_test::node_fits` meets its contract: by its kind and argument a node is a leaf, a combinator or nothing, and it fits if its size allows it.
 -- Assumes nothing.
 use mathlib.Core.Path.{sym, _∙_}
 use mathlib.Core.Logic.{⊎-elim}

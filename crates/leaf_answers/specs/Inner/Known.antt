@@ -19,11 +19,11 @@ pub record Known (stores list starts slots marks : List ℕ) : Type 0 where
   pub indexed : Indexed stores (countIn stores) starts slots
   pub marked : Marked (entriesIn stores) (allNames (entriesIn list)) marks
 
--- the world that a list and a view show
+-- the environment that a list, an age and a count of readable stores make
 abbrev pub envIn : List ℕ → EnvNumbers → Env
 envIn list v = record { age = v .age; ready = v .ready; names = allNames (entriesIn list) }
 
--- of an image of n nodes, each leaf among the first i says evict in a world just where its number is at least `least`
+-- of an image of n nodes, each leaf among the first i says evict in an environment exactly where its number is at least `least`
 abbrev pub SaidTo : List ℕ → ℕ → List ℕ → ℕ → Env → ℕ → Type 0
 SaidTo s n says least w i = (j : ℕ) → j < i → (l : Leaf) → cellAt s n j .what ≡ aLeaf l → leb least (getD says j 0) ≡ leafSays l w
 

@@ -1,4 +1,4 @@
--- `lines::append_shown` meets its contract: after i turns the first i bytes that are shown are written. Assumes nothing.
+-- `lines::append_shown` meets its contract: after i turns the first i bytes are written, each as it is shown. Assumes nothing.
 use mathlib.Core.Path.{_≡_, refl}
 use Prim.Native.Nat.{_-_, _≤_}
 use native.Mathlib.Omega.{arith}

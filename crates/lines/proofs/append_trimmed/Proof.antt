@@ -1,4 +1,4 @@
--- `lines::append_trimmed` meets its contract: the piece is put up to where its text ends. Assumes nothing.
+-- `lines::append_trimmed` meets its contract: the piece is written up to where its text ends. Assumes nothing.
 use mathlib.Core.Path.{sym}
 use native.Mathlib.Omega.{arith}
 use borrow.Author.Needs.{needs}

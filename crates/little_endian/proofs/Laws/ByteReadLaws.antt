@@ -15,7 +15,7 @@ unfolding leBytes
 bytes-join zero k x = rw (zero-add, div-one)
 bytes-join (suc j) k x = rw (suc-add, pow-succ', ← div-div-eq-div-mul, bytes-join j k (x / 256))
 
--- one number more behind others
+-- one number more after others
 pub packed-more : (k : ℕ) (xs : List ℕ) (x : ℕ) → packed k (xs ++ (x ∷ [])) ≡ packed k xs ++ leBytes k x
 unfolding packed
 packed-more k xs x = packed-append k xs (x ∷ []) ∙ rw append-nil

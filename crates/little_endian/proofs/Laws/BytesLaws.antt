@@ -69,7 +69,7 @@ module _ (s a b : List ℕ) (at to : ℕ) (e : at + length a ≡ to) where
   unfolding Has
   has-back h = append-cancel-left a _ b (rw (length-append a b, take-add (length a) (length b) (drop at s), drop-drop, e, has-front s a b at h) at h)
 
--- and nothing behind it, if s ends there
+-- and nothing after it, if s ends there
 pub has-rest : (s l : List ℕ) (at : ℕ) → length s ≡ at + length l → Has s at l → drop at s ≡ l
 unfolding Has
 has-rest s l at e h = sym (take-all (length l) (drop at s) (rw length-drop (omega arith))) ∙ h

@@ -1,4 +1,4 @@
--- `lookup::find` meets its contract: all of a table's entries are looked among. Assumes nothing.
+-- `lookup::find` meets its contract: all of a table's entries are searched. Assumes nothing.
 use native.Mathlib.Omega.{arith}
 use borrow.Author.Needs.{needs}
 use Rattle.lookup.proofs.find.Statement.{statement}

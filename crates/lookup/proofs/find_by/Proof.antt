@@ -1,4 +1,4 @@
--- `lookup::find_by` meets its contract: an empty slot says that the name is none, and a slot's entry is one of the first. Assumes nothing.
+-- `lookup::find_by` meets its contract: an empty slot says that no entry has the name, and a slot's entry is one of the first. Assumes nothing.
 use mathlib.Core.Path.{sym, _∙_}
 use Prim.Native.Nat.{_+_, _-_, _≤_, _<_}
 use native.Mathlib.Omega.{arith}

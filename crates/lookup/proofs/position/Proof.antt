@@ -1,4 +1,4 @@
--- `lookup::position` meets its contract: the name is none of the first k entries'. Assumes nothing.
+-- `lookup::position` meets its contract: none of the first k entries has the name. Assumes nothing.
 use mathlib.Core.Path.{_≡_, refl, sym, _∙_}
 use mathlib.Core.Bool.{false}
 use Prim.Native.Nat.{_-_, _≤_}

@@ -1,4 +1,4 @@
--- Laws of what stands in the three arrays: kept, joined, one more, one less. Assumes nothing.
+-- Laws of what the three arrays hold: kept, joined, one more, one less. Assumes nothing.
 use mathlib.Core.Path.{_≡_, refl, sym, ap, _∙_}
 use mathlib.Core.List.{List, [], _∷_, _++_, append-assoc, append-nil}
 use Prim.Native.Nat.{ℕ, suc, _+_, _-_, _≤_, _<_}
@@ -44,7 +44,7 @@ module _ (a b T : List ℕ) (n m x : ℕ) (e : take m a ≡ take n b ++ (T ++ x 
       let lt : m - 1 < m = omega (arith, head-long) in
       sym (getD-take m a (m - 1) 0 lt) ∙ ap (λ (l : List ℕ). getD l (m - 1) 0) regrouped ∙ getD-at (take n b ++ T) x [] 0 (m - 1) (omega (arith, head-long))
 
--- ---- what stands in the three arrays
+-- ---- what the three arrays hold
 module _ {b a : Arrays} {n m n₁ m₁ : ℕ} {T A N : List ℕ} (h : Holds b a n m n₁ m₁ T A N) where
   pub holds-as : {T′ A′ N′ : List ℕ} → T ≡ T′ → A ≡ A′ → N ≡ N′ → Holds b a n m n₁ m₁ T′ A′ N′
   holds-as p q r = record {
@@ -76,7 +76,7 @@ module _ {b a : Arrays} {n m n₁ m₁ : ℕ} {T A N : List ℕ} (h : Holds b a 
     more-names = h .more-names;
   }
 
-  -- what stood before stands
+  -- what was there before is still there
   pub front : n ≤ length (b .tags) → n ≤ length (b .args) → m ≤ length (b .names) → (take n (a .tags) ≡ take n (b .tags)) × (take n (a .args) ≡ take n (b .args)) × (take m (a .names) ≡ take m (b .names))
   front lt la ln = (
     cut (a .tags) (b .tags) T n n₁ (h .tags) (h .more-tags) lt,
@@ -112,7 +112,7 @@ still l p q r = record { tags = p ∙ l .tags; args = q ∙ l .args; names = r �
 pub long-after : {b a : Arrays} → Long (length (b .tags)) b → length (a .tags) ≡ length (b .tags) → length (a .args) ≡ length (b .args) → length (a .names) ≡ length (b .names) → Long (length (a .tags)) a
 long-after l p q r = record { tags = refl; args = q ∙ l .args ∙ sym p; names = r ∙ l .names ∙ sym p }
 
--- ---- a name behind others, byte by byte
+-- ---- a name after others, byte by byte
 pub name-none : (s b : List ℕ) (start m : ℕ) → take m b ≡ take m b ++ part s start start
 unfolding part
 name-none s b start m =

@@ -16,7 +16,7 @@ use Rattle.grammar.specs.Grammar.{leftRules, chain}
 use Rattle.nodes.specs.Inner.Parses.{Arrays, Holds, Joined, keepIf}
 use Rattle.nodes.proofs.Laws.ArrayLaws.{unsnoc, last-is, holds-as, holds-join, holds-push}
 
--- the kind of a rule's root, its tag, and what stands before it
+-- the kind of a rule's root, its tag, and what is before it
 abbrev rootKind : Rule → ℕ
 rootKind (leaf l) = leafKind l
 rootKind (node j rs r) = joinKind j
@@ -66,7 +66,7 @@ left-of by-any (node (atLeast k) rs r) = alone (node (atLeast k) rs r) refl refl
 left-of by-any (node all rs r) = alone (node all rs r) refl refl
 left-of by-any (node any rs r) = own rs r refl
 
--- what stands in the arrays of some rules
+-- what the arrays of some rules hold
 abbrev HoldsAll : (b a : Arrays) (n m n₁ m₁ : ℕ) → Rules → Type 0
 HoldsAll b a n m n₁ m₁ rs = Holds b a n m n₁ m₁ (tagsAll rs) (argsAll rs m) (namesAll rs)
 

@@ -44,7 +44,7 @@ module _ {G : ℕ → ParseResult} {need : ℕ} {s : List ℕ} {at n m : ℕ} {b
         cc;
   }
 
-  -- the same from other arrays that begin alike
+  -- the same from other arrays that begin the same way
   pub rebase : {b′ : Arrays} {e n₁ m₁ : ℕ} → (take n (b′ .tags) ≡ take n (b .tags)) × (take n (b′ .args) ≡ take n (b .args)) × (take m (b′ .names) ≡ take m (b .names)) → Read G need s at n m b′ a e n₁ m₁ → Read G need s at n m b a e n₁ m₁
   rebase q r = record {
     tree = r .tree;
@@ -58,7 +58,7 @@ module _ {G : ℕ → ParseResult} {need : ℕ} {s : List ℕ} {at n m : ℕ} {b
     holds = rebased (r .holds) q;
   }
 
--- ---- a level of the grammar, `or` or `and`: G reads at `at`, Op reads an operand, More goes on after what was read
+-- ---- a level of the grammar, `or` or `and`: G reads at `at`, Op reads an operand, More continues after what was read
 pub record Level (s : List ℕ) (G : ℕ → ParseResult) (More : ℕ → ParseResult → ParseResult) (Op : ℕ → ℕ → ParseResult) (sign : ℕ) (j : Join) (at : ℕ) : Type 0 where
   pub chains : Chains j
   pub starts : (f : ℕ) → G (suc f) ≡ More f (Op f at)
@@ -126,7 +126,7 @@ module _ {s : List ℕ} {G : ℕ → ParseResult} {More : ℕ → ParseResult �
       done zero h = absurd (omega arith)
       done (suc g) h = L .stops g (l .tree) e not
 
-  -- a sign follows, and the text goes on at y
+  -- a sign follows, and the text continues at y
   module _ {e y : ℕ} (is : after sign (tokensFrom s e) ≡ rest (tokensFrom s y)) (fewer : left s y < left s e) where
     -- the operand after it was refused
     pub right-refused : {need need₂ n m cap : ℕ} {b a : Arrays} {n₁ m₁ : ℕ} {x : Refusal} → Sofar G More need s at n m cap b a e n₁ m₁ → need₂ ≤ 3 * left s y + 2 → ((f : ℕ) → need₂ ≤ f → Op f y ≡ bad x) → (f : ℕ) → need ≤ f → G f ≡ bad x
@@ -218,7 +218,7 @@ module _ (s : List ℕ) (d at : ℕ) where
         holds = w .holds;
       }
 
-  -- a bracket, with the text going on at e₀
+  -- a bracket, after which the text continues at e₀
   module _ {e₀ : ℕ} (q : primaryStart s d (tokensFrom s at) ≡ aGroup (tokensFrom s e₀)) (h : (at < e₀) × (e₀ ≤ length s) × (left s e₀ < left s at)) where
     grouped : (g : ParseResult) → ((f : ℕ) → 3 * left s e₀ + 3 ≤ f → orIn f s (d + 1) (tokensFrom s e₀) ≡ g) → Says (closeAfter g)
     unfolding primaryIn

@@ -1,4 +1,4 @@
--- `nodes::write_name` meets its contract: the name so far stands behind the names before it. Assumes nothing.
+-- `nodes::write_name` meets its contract: the name so far is after the names before it. Assumes nothing.
 use mathlib.Core.Path.{_≡_, refl, sym, ap, _∙_}
 use mathlib.Core.List.{_++_}
 use Prim.Native.Nat.{ℕ, _≤_, _+_, _-_}

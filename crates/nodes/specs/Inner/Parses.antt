@@ -1,4 +1,4 @@
--- What the parser's functions ask and promise: where in the text they are, and what stands in the three lent arrays.
+-- What the parser's functions ask and promise: where in the text they are, and what the three lent arrays hold.
 -- Assumes nothing.
 use Prim.Native.Nat.{ℕ, _+_, _-_, _*_, _≤_, _<_}
 use mathlib.Core.Path.{_≡_}
@@ -25,13 +25,13 @@ pub record Arrays : Type 0 where
 abbrev pub arrays : List ℕ → List ℕ → List ℕ → Arrays
 arrays t a w = record { tags = t; args = a; names = w }
 
--- each has room for so many
+-- each has room for this many
 pub record Long (cap : ℕ) (b : Arrays) : Type 0 where
   pub tags : length (b .tags) ≡ cap
   pub args : length (b .args) ≡ cap
   pub names : length (b .names) ≡ cap
 
--- before a call: the table has no faults, the position lies in the text behind the brackets that stand open, and there is room
+-- before a call: the table has no faults, the position lies in the text after the brackets that are open, and there is room
 -- for a node and for a name byte for each byte of the text that is left
 pub record Before (class s : List ℕ) (at depth n m : ℕ) (b : Arrays) : Type 0 where
   pub table : IsClassTable class
@@ -42,7 +42,7 @@ pub record Before (class s : List ℕ) (at depth n m : ℕ) (b : Arrays) : Type 
   pub few : length (b .tags) ≤ 2048
   pub long : Long (length (b .tags)) b
 
--- behind the first n nodes and m name bytes of b stand T, A and N in a, up to n₁ and m₁
+-- after the first n nodes and m name bytes of b, a holds T, A and N, up to n₁ and m₁
 pub record Holds (b a : Arrays) (n m n₁ m₁ : ℕ) (T A N : List ℕ) : Type 0 where
   pub tags : take n₁ (a .tags) ≡ take n (b .tags) ++ T
   pub args : take n₁ (a .args) ≡ take n (b .args) ++ A
@@ -51,7 +51,7 @@ pub record Holds (b a : Arrays) (n m n₁ m₁ : ℕ) (T A N : List ℕ) : Type 
   pub more-args : n₁ ≡ n + length A
   pub more-names : m₁ ≡ m + length N
 
--- after it: G, with fuel enough, reads a rule and leaves the tokens from e on, and the rule's nodes stand behind the first n
+-- after it: G, with enough fuel, reads a rule and leaves the tokens from e on, and the rule's nodes come after the first n
 pub record Read (G : ℕ → ParseResult) (need : ℕ) (s : List ℕ) (at n m : ℕ) (b a : Arrays) (e n₁ m₁ : ℕ) : Type 0 where
   pub tree : Rule
   pub says : (f : ℕ) → need ≤ f → G f ≡ got tree (tokensFrom s e)
@@ -83,7 +83,7 @@ pub record NameRoom (s : List ℕ) (start end n m : ℕ) (b : Arrays) : Type 0 w
   pub few : length (b .tags) ≤ 2048
   pub long : Long (length (b .tags)) b
 
--- a leaf's node was written after the first n nodes of b, its name after the first m name bytes, and the text goes on at `next`
+-- a leaf's node was written after the first n nodes of b, its name after the first m name bytes, and the text continues at `next`
 pub record Written (l : Leaf) (next n m : ℕ) (b a : Arrays) (r : ParseEnd) : Type 0 where
   pub reached : r ≡ Done next (n + 1) (m + length (image.leafName l))
   pub holds : Holds b a n m (n + 1) (m + length (image.leafName l)) (image.tags (leaf l)) (image.args (leaf l) m) (image.names (leaf l))
@@ -100,7 +100,7 @@ pub record Joined (j : Join) (first n : ℕ) (t a t₁ a₁ : List ℕ) : Type 0
   pub tags : t₁ ≡ set t n (image.tag (image.joinKind j) (n - first + 1))
   pub args : a₁ ≡ set a n (image.joinArg j)
 
--- one less where a chain goes on in its left side
+-- one less where a chain continues its left side
 abbrev pub keepIf : Bool → ℕ → ℕ
 keepIf true n = n - 1
 keepIf false n = n

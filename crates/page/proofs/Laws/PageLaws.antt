@@ -1,4 +1,4 @@
--- Laws of the page: which of its cases is due, and the table that arguments make. Assumes nothing.
+-- Laws of the page: which of its cases applies, and the table that arguments make. Assumes nothing.
 use mathlib.Core.Path.{_≡_}
 use mathlib.Core.List.{List, []}
 use Prim.Native.Nat.{ℕ, _≤_, _<_}

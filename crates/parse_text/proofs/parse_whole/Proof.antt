@@ -1,4 +1,4 @@
--- `parse_text::parse_whole` meets its contract: what is left behind the rule is the end, or it is refused. Assumes nothing.
+-- `parse_text::parse_whole` meets its contract: what is left after the rule is the end, or it is refused. Assumes nothing.
 use mathlib.Core.Path.{sym, _∙_}
 use Rattle.parse_text.proofs.Laws.ParseTextLaws.{answered-done, answered-refused, parse-refused, parse-trailing, parse-whole}
 use Rattle.grammar.proofs.Tags.{others, not-kind}

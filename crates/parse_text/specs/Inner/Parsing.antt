@@ -1,4 +1,4 @@
--- What the functions that read a whole text ask and promise: room in the three lent arrays, and what stands there afterwards.
+-- What the functions that read a whole text ask and promise: room in the three lent arrays, and what they hold afterwards.
 -- Assumes nothing.
 use Prim.Native.Nat.{ℕ, _≤_}
 use mathlib.Core.Path.{_≡_}
@@ -22,7 +22,7 @@ pub record Ready (class s : List ℕ) (b : Arrays) : Type 0 where
   pub few : length (b .tags) ≤ 2048
   pub long : Long (length (b .tags)) b
 
--- x, which the text is read as, is a rule, whose n nodes and m name bytes stand in the arrays
+-- x, which the text is read as, is a rule, whose n nodes and m name bytes are in the arrays
 pub record Whole (x : Read) (s : List ℕ) (a : Arrays) (n m : ℕ) : Type 0 where
   pub tree : Rule
   pub says : x ≡ rule tree

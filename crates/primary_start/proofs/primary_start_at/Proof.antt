@@ -1,4 +1,4 @@
--- `primary_start::primary_start_at` meets its contract: by the token that stands there. Assumes nothing.
+-- `primary_start::primary_start_at` meets its contract: by the token that is there. Assumes nothing.
 use mathlib.Core.Path.{refl, sym, _∙_}
 use native.Mathlib.Omega.{arith}
 use Rattle.tokens.specs.Token.{nextOf}

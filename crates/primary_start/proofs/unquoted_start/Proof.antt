@@ -14,7 +14,7 @@ use borrow.Author.Needs.{needs}
 use Rattle.primary_start.proofs.unquoted_start.Statement.{statement}
 use Rattle.primary_start.proofs.unquoted_start.Tie as tie
 
--- the test of a word that stands alone
+-- the test of a word without a bracket after it
 abbrev is-readable : List ℕ → Bool
 is-readable w = equalIgnoringCase w (bytes "readable")
 

@@ -1,4 +1,4 @@
--- What printing answers, by what each test found, and what stands in the buffer then. Assumes nothing.
+-- What printing answers, by what each test found, and what the buffer holds then. Assumes nothing.
 use mathlib.Core.Path.{_≡_, _∙_}
 use mathlib.Core.Bool.{true, false}
 use mathlib.Core.List.{List, _++_}
@@ -36,7 +36,7 @@ module _ (i t : List ℕ) where
         let q = long r (w .sized) (w .stands) in
         rw (e, lt-ltb (length t) (length (textOf r)) (omega arith))
 
-    -- and the text was put into the buffer so that it ends at k
+    -- and the text was written into the buffer so that it ends at k
     pub printed : {t′ : List ℕ} {start : ℕ} → k ≤ length t → ((r : Rule) → size r ≡ n → EncodedAt r (cellAt i n) 0 → WrittenAt t t′ start k (textOf r)) → outcome (Printed k) t′ ≡ printInto i t
     unfolding printInto
     printed {t′} {start} room puts =

@@ -1,4 +1,4 @@
--- `print::print` meets its contract: 16, then 1, and only then is the text put into the buffer. Assumes nothing.
+-- `print::print` meets its contract: 16, then 1, and only then is the text written into the buffer. Assumes nothing.
 use mathlib.Core.Path.{_≡_, refl, sym, _∙_}
 use mathlib.Core.Bool.{true}
 use native.Mathlib.Omega.{arith}

@@ -1,4 +1,4 @@
--- `print_pieces::prepend_after` meets its contract: each kind has its own line, and the others prepend nothing. Assumes nothing.
+-- `print_pieces::prepend_after` meets its contract: each kind has its own line, and for the others nothing is written. Assumes nothing.
 use native.Mathlib.Omega.{arith}
 use borrow.Author.Needs.{needs}
 use Rattle.print_text.specs.Print.{behind}

@@ -1,4 +1,4 @@
--- `print_pieces::prepend_back` meets its contract: the bracket stands before what is prepend first. Assumes nothing.
+-- `print_pieces::prepend_back` meets its contract: the bracket comes before what is written first. Assumes nothing.
 use mathlib.Core.Path.{sym, _∙_}
 use native.Mathlib.Omega.{arith}
 use borrow.Author.Needs.{needs}

@@ -1,4 +1,4 @@
--- `print_pieces::prepend_leaf` meets its contract: each kind has its own pieces, each prepend before the one prepend before it. Assumes nothing.
+-- `print_pieces::prepend_leaf` meets its contract: each kind has its own pieces, each written before the one written last. Assumes nothing.
 use native.Mathlib.Omega.{arith}
 use borrow.Author.Needs.{needs}
 use lib.ListN.{length-append}

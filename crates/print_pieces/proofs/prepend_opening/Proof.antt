@@ -1,4 +1,4 @@
--- `print_pieces::prepend_opening` meets its contract: three pieces, each before the one prepend before it. Assumes nothing.
+-- `print_pieces::prepend_opening` meets its contract: three pieces, each written before the one written last. Assumes nothing.
 use native.Mathlib.Omega.{arith}
 use borrow.Author.Needs.{needs}
 use lib.ListN.{length-append}

@@ -1,4 +1,4 @@
--- `print_put::put_rule` meets its contract: the walk over the children keeps what is put, and each child has fewer nodes than its
+-- `print_put::put_rule` meets its contract: the walk over the children keeps what is written, and each child has fewer nodes than its
 -- parent. Assumes nothing.
 use mathlib.Core.Path.{_≡_, sym, ap, _∙_}
 use mathlib.Core.Logic.{⊎-elim}
@@ -102,7 +102,7 @@ put-rule-node-at-requires-2 t c κs =
     let s = c .before .before .before .before .before .before .before in
     (s .pre .1 .0 .long, omega (arith, c .before .loop .inv .0, the-node t s))
 
--- the child that a turn puts
+-- the child that a turn writes
 the-turn : (t : ℕ) (c : put-rule-lts.After-node-at2 (given t) (put-rule-at t) put-rule.Post put-rule-Inv-loop put-rule-μ-loop) →
     let s = c .before .before .before .before .before .before .before .before in
     let d = c .before .before .before .before .before .node-at .result in
@@ -122,7 +122,7 @@ put-rule-prepend-back-requires t c κs =
 put-rule-sub-stop : (t : ℕ) → put-rule-lts.Need-sub-stop (given t) (put-rule-at t) put-rule.Post put-rule-Inv-loop put-rule-μ-loop
 put-rule-sub-stop t c = omega (arith, the-turn t (c .before .before .before .before) .fits)
 
--- where its back begins there is room for its text, inside the buffer
+-- where what comes after it begins, there is room for its text, inside the buffer
 the-place : (t : ℕ) (c : put-rule-lts.After-is-leaf2 (given t) (put-rule-at t) put-rule.Post put-rule-Inv-loop put-rule-μ-loop) →
     let s = c .before .before .before .before .before .before .before .before .before .before .before .before .before .args in
     let d = c .before .before .before .before .before .node-at2 .result in
@@ -165,7 +165,7 @@ put-rule-put-rule-requires t c κs =
       ),
     )
 
--- its text is put, by either way
+-- its text is written, either way
 the-text : (t : ℕ) (c : put-rule-lts.Joined2 (given t) (put-rule-at t) put-rule.Post put-rule-Inv-loop put-rule-μ-loop) →
     let s = c .before .before .before .before .before .before .before .before .before .before .before .before .before .before .args in
     let d = c .before .before .before .before .before .before .node-at2 .result in

@@ -129,7 +129,7 @@ Counted t c r =
     let d = c .before .node-at2 .result in
     (q : Rule) → size q ≡ d .size → EncodedAt q (cellAt (s .image .now) (s .n)) (c .before .before .before .loop .end - d .size) → r ≡ length (textOf q)
 
--- so they have room, and the walk goes on
+-- so they have room, and the walk continues
 counted-room : (t : ℕ) (c : text-size-lts.After-around-size (given t) (text-size-at t) text-size.Post text-size-Inv-loop text-size-μ-loop) {r : ℕ} → Counted t c r → c .before .before .before .loop .total + c .around-size .result + r ≤ 134_348_800
 counted-room t c h =
     let u = the-turn t (c .before) in

@@ -1,4 +1,4 @@
--- `print_size::behind_size` meets its contract: each kind has its own line, and behind the children of other kinds stands nothing.
+-- `print_size::behind_size` meets its contract: each kind has its own line, and nothing comes after the children of other kinds.
 -- Assumes nothing.
 use native.Mathlib.Omega.{arith}
 use Rattle.print_text.specs.Inner.Pieces.{behindOf}

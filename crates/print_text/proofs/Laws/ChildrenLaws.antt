@@ -21,7 +21,7 @@ use Rattle.print_text.specs.Print.{childText, textOf, childrenText}
 use Rattle.print_text.specs.Inner.Pieces.{leafTextOf, leafIn, openingOf, frontOf, backOf}
 use Rattle.print_text.proofs.Laws.PiecesLaws.{rootOf, kindOf, root-what, kind-of, opening-of, child-of, child-short, opening-short, leaf-short}
 
--- the text of the first children of a combinator, the last of whom is the combinator's last, or is not
+-- the text of the first children of a combinator; the last of these is the combinator's last child, or is not
 unfoldable pub upTo : Rules → Join → Bool → List ℕ
 unfolding textOf
 upTo nil j last = []
@@ -134,7 +134,7 @@ module _ (s : List ℕ) (n : ℕ) where
     pub walks-done : end ≤ from → (ρ : Rule) → size ρ ≡ k → EncodedAt ρ (cellAt s n) from → (t : List ℕ) × (textOf ρ ≡ openingOf kind arg ++ t) × P t
     walks-done le ρ e st = let (rest, passed, w, h) = ws ρ e st in (passed, done-of ρ rest le w, h)
 
-  -- ---- at most 65,600 bytes a node, and 6 of them round the text
+  -- ---- at most 65,600 bytes a node, and 6 of them around the text
   mutual
     unfolding size EncodedAt textOf cellAt leafTextOf
 

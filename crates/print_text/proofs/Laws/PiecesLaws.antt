@@ -1,4 +1,4 @@
--- The pieces that nodes have by their kinds and arguments are those of the rule that stands there, and they are short. Assumes nothing.
+-- The pieces that nodes have by their kinds and arguments are those of the rule whose nodes they are, and they are short. Assumes nothing.
 use mathlib.Core.Path.{_≡_, refl}
 use mathlib.Core.Bool.{Bool, true, false, cond}
 use mathlib.Core.List.{List, [], _++_}
@@ -79,7 +79,7 @@ pub child-of : (j : Join) (q : Rule) (t : List ℕ) (last : Bool) → childText 
 unfolding childText frontOf backOf
 child-of j q t last = rw (bracketed-of j q, behind-of j last)
 
--- ---- kinds that have no text of a leaf, nothing before their children, nothing behind a child
+-- ---- kinds that have no text of a leaf, nothing before their children, nothing after a child
 leaf-none : (m : Meaning) → NoLeaf m → leafTextOf m ≡ []
 unfolding leafTextOf
 leaf-none (aLeaf l) h = absurd (h l refl)
@@ -105,7 +105,7 @@ none-behind k {last} g h = rw (ne-eqb k atLeastKind g) (by-all (eqb k allKind) r
     by-all true e = let p = eqb-true k allKind e in rw (h (omega arith) (omega arith))
     by-all false e = by-any (eqb k anyKind) refl
 
--- ---- how long they are at most: what stands behind a child, what surrounds it, what stands before the children, and a leaf
+-- ---- how long they are at most: what comes after a child, what surrounds it, what comes before the children, and a leaf
 sign-short : (j : Join) (last : Bool) → length (behind j last) ≤ 4
 unfolding behind
 sign-short (atLeast k) true = omega arith

@@ -23,7 +23,7 @@ pub text-readable : (k : ℕ) → textOf (leaf (readable k)) ≡ bytes "readable
 unfolding textOf
 text-readable k = refl
 
--- ---- combinators: what stands before the children, the earlier ones, and the last
+-- ---- combinators: what comes before the children, the earlier ones, and the last
 module _ (j : Join) (rs : Rules) (r : Rule) where
   pub text-node : textOf (node j rs r) ≡ opening j ++ (childrenText rs j ++ childText j r (textOf r) true)
   unfolding textOf

@@ -16,16 +16,16 @@ leafTextOf (aLeaf l) = leafText l
 leafTextOf (aJoin j) = []
 leafTextOf nothing = []
 
--- of node by kind and argument, in an image s of n nodes
+-- of a node by its kind and argument, in an image s of n nodes
 abbrev pub leafIn : List ℕ → ℕ → ℕ → ℕ → List ℕ
 leafIn s n kind arg = leafTextOf (meaning s n kind arg)
 
--- what stands before the children of a combinator of this kind and argument
+-- what comes before the children of a combinator of this kind and argument
 unfoldable pub openingOf : ℕ → ℕ → List ℕ
 unfolding opening
 openingOf kind arg = cond (eqb kind atLeastKind) (opening (atLeast arg)) []
 
--- what stands behind a child of a combinator of this kind
+-- what comes after a child of a combinator of this kind
 unfoldable pub behindOf : ℕ → Bool → List ℕ
 unfolding behind
 behindOf kind last =
@@ -37,7 +37,7 @@ behindOf kind last =
 unfoldable pub bracketedOf : ℕ → ℕ → Bool
 bracketedOf kind child = eqb kind allKind && eqb child anyKind
 
--- what stands before a child's own text, and what stands behind it
+-- what comes before a child's own text, and what comes after it
 unfoldable pub frontOf : ℕ → ℕ → List ℕ
 unfolding bracket bracketedOf
 frontOf kind child = bracket (bracketedOf kind child) (bytes "(")

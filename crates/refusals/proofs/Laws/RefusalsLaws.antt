@@ -8,7 +8,7 @@ use lib.ListN.{length, getD, List·getD-eq-default}
 use Rattle.refusals.specs.declared.Row.{Row}
 use Rattle.refusals.specs.Refusals.{row, table, rowOf}
 
--- what stands within a list does not depend on what is taken to stand past its end
+-- an element within a list does not depend on the value taken for those past its end
 any-default : (l : List Row) (i : ℕ) (d e : Row) → i < length l → getD l i d ≡ getD l i e
 any-default [] i d e h = absurd (not-suc-le-zero h)
 any-default (x ∷ l) zero d e h = refl

@@ -1,4 +1,4 @@
--- `report::append_judged` meets its contract: the verdict's line, and behind it what that verdict means. Assumes nothing.
+-- `report::append_judged` meets its contract: the verdict's line, and after it what that verdict means. Assumes nothing.
 use native.Mathlib.Omega.{arith}
 use borrow.Author.Needs.{needs}
 use Rattle.slices.proofs.Laws.WrittenLaws.{put-behind}

@@ -11,7 +11,7 @@ use Rattle.tokens.proofs.Laws.SignLaws.{behind-end, behind-sign, behind-word, b
 use Rattle.signs.proofs.sign_at.Statement.{statement}
 use Rattle.signs.proofs.sign_at.Tie as tie
 
--- once the byte after the first has been looked at: the text goes on nextOfClass the two if they are alike
+-- once the byte after the first has been looked at: if the two are the same, the text continues after them
 signed : (c : tie.After-doubled-at) {v : Bool} → c .doubled-at .result ≡ v →
     let placed = c .before .before .before .before .before in
     let start = placed .before .before .args in

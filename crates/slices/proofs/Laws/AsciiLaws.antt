@@ -1,4 +1,4 @@
--- Bytes below 128: the largest of them, parts of them, and what is put together of them. Assumes nothing.
+-- Bytes below 128: the largest of them, parts of them, and what is joined from them. Assumes nothing.
 use mathlib.Core.Path.{_≡_, refl, sym}
 use mathlib.Core.Bool.{Bool, true, false, _&&_, and-eq-true-iff}
 use mathlib.Core.List.{List, [], _∷_, _++_}

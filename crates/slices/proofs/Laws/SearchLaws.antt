@@ -24,7 +24,7 @@ module _ (s : List ℕ) (i : ℕ) where
   unfolding largest
   largest-on h = rw (add-one, drop-cons s i 0 h)
 
--- ---- behind the last byte that passes a test
+-- ---- the position after the last byte that passes a test
 module _ (p : ℕ → Bool) (s : List ℕ) where
   -- the byte before a position passes it
   pub last-here : (i : ℕ) → 0 < i → p (getD s (i - 1) 0) ≡ true → endOfLast p s i ≡ i

@@ -1,4 +1,4 @@
--- Laws of runs and parts: where a run ends, by the byte that stands at a position.
+-- Laws of runs and parts: where a run ends, by the byte at a position.
 -- Assumes nothing.
 use mathlib.Core.Path.{_≡_, refl, sym, _∙_}
 use mathlib.Core.Bool.{Bool, true, false, not, cond}

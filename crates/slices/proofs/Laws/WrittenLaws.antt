@@ -1,4 +1,4 @@
--- Laws of writing over a list: stores in a row, and what is written behind or before what was written. Assumes nothing.
+-- Laws of writing over a list: stores in a row, and what is written after or before what was written. Assumes nothing.
 use mathlib.Core.Path.{_≡_, _∙_}
 use mathlib.Core.List.{List, [], _∷_, _++_, append-assoc}
 use Prim.Native.Nat.{ℕ, _+_, _-_, _≤_, _<_}
@@ -37,7 +37,7 @@ module _ (s : List ℕ) (at : ℕ) (h : at ≤ length s) where
       (simp (append-assoc, length-append, add-assoc))
 
   module _ {s′ s″ : List ℕ} where
-    -- s with v written is s′, and s′ with w written behind that is s″
+    -- s with v written is s′, and s′ with w written after that is s″
     pub written-then : (v w : List ℕ) (p : ℕ) → at + length v ≡ p → s′ ≡ written s at v → s″ ≡ written s′ p w → s″ ≡ written s at (v ++ w)
     written-then v w p q e f = f ∙ rw (e, ← q) (written-more v w)
 
@@ -51,7 +51,7 @@ module _ (s : List ℕ) (at : ℕ) (h : at ≤ length s) where
         rw (add-one, take-suc xs i 0 l)
         (written-then (take i xs) (getD xs i 0 ∷ []) (at + i) (rw front-length) e (written-sets s′ (at + i) (getD xs i 0 ∷ []) (omega arith)))
 
--- ---- bytes put into a text, from its end on: none
+-- ---- bytes written into a text, from its end on: none
 pub put-none : (s : List ℕ) (end : ℕ) → WrittenAt s s end end []
 put-none s end = record { ends = add-zero end; text = written-none s end }
 
@@ -69,7 +69,7 @@ written-before s p at v w h e =
     rw (e, drop-at (take at s) q at l, take-append-le p (take at s) q k, take-take p at s (omega arith), length-append, ← add-assoc p (length w) (length v), e)
     (simp append-assoc)
 
--- what is put before what was put
+-- what is written so that it ends where what was written begins
 pub put-before : {a b c : List ℕ} {p s e : ℕ} {v w : List ℕ} → e ≤ length a → WrittenAt a b s e v → WrittenAt b c p s w → WrittenAt a c p e (w ++ v)
 put-before {a} {b} {c} {p} {s} {e} {v} {w} h x y =
     record {
@@ -77,15 +77,15 @@ put-before {a} {b} {c} {p} {s} {e} {v} {w} h x y =
       text = y .text ∙ rw (x .text) (written-before a p s v w (omega arith) (y .ends));
     }
 
--- where it begins is told by where it ends
+-- where it begins follows from where it ends
 pub put-from : {a b : List ℕ} {s e : ℕ} {v : List ℕ} (t : ℕ) → t + length v ≡ e → WrittenAt a b s e v → WrittenAt a b t e v
 put-from {a} {b} {s} {e} {v} t q x = let h : s ≡ t = omega arith in rw h at x
 
--- what is put behind what was put
+-- what is written after what was written
 pub put-behind : {a b c : List ℕ} {s p e : ℕ} {v w : List ℕ} → s ≤ length a → WrittenAt a b s p v → WrittenAt b c p e w → WrittenAt a c s e (v ++ w)
 put-behind {a} {b} {c} {s} {p} {e} {v} {w} h x y = record { ends = rw length-append (omega arith); text = written-then a s h v w p (x .ends) (x .text) (y .text) }
 
--- what was put ends what stands before its end
+-- up to the end of what was written: what was before it, and then what was written
 pub put-front : {a b : List ℕ} {s e : ℕ} {v : List ℕ} → s ≤ length a → WrittenAt a b s e v → take e b ≡ take s a ++ v
 unfolding written
 put-front {a} {b} {s} {e} {v} h x = rw (x .text, ← append-assoc (take s a) v _) (take-at (take s a ++ v) _ e (head-length a s h v ∙ x .ends))

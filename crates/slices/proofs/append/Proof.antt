@@ -1,4 +1,4 @@
--- `slices::append` meets its contract: the piece is prepend so that it ends its length behind the position. Assumes nothing.
+-- `slices::append` meets its contract: the piece is written so that it ends its length after the position. Assumes nothing.
 use native.Mathlib.Omega.{arith}
 use borrow.Author.Needs.{needs}
 use Rattle.slices.proofs.Laws.WrittenLaws.{put-from}

@@ -1,4 +1,4 @@
--- Laws of arrays that are filled with the stores of arguments, one after the other. Assumes nothing.
+-- Laws of arrays that are filled with the stores of arguments, one after another. Assumes nothing.
 use mathlib.Core.Path.{_≡_, refl, _∙_}
 use mathlib.Core.List.{List, [], _∷_, _++_, append-nil, append-assoc, map-append}
 use Prim.Native.Nat.{ℕ, suc, _+_, _-_, _*_, _≤_, _<_}
@@ -40,7 +40,7 @@ hold-on {k} {a} e h r m l n =
       ends = rw (joined-one, length-append) (omega (arith, n .ends, h .ends));
     }
 
--- ---- stores behind those that are there
+-- ---- stores after those that are there
 abbrev behind : List Entry → Stores → Stores
 behind es (stores fs) = stores (es ++ fs)
 behind es (wrongAt i f) = wrongAt i f

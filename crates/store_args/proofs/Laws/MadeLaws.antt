@@ -32,7 +32,7 @@ module _ {s : Stores} {a : Arrays} {r : Filled} (f : FilledBy s a r) where
         bad = λ j y p. f .bad j y (cc);
       }
 
-  -- the parts stand one behind the other
+  -- the parts follow one another
   pub made-table : {count used m l n : ℕ} (t : List ℕ) {t₁ t₂ t₃ t₄ t₅ : List ℕ} → r ≡ All count used → t₁ ≡ written t countStart (leBytes 2 count) → t₂ ≡ written t₁ totalStart (leBytes 2 used) → WrittenAt t₂ t₃ modesStart m (take count (a .modes)) → WrittenAt t₃ t₄ m l (take count (a .lengths)) → WrittenAt t₄ t₅ l n (take used (a .names)) → n ≤ length t₅ → MadeOf s t₅ (Table n)
   unfolding leBytes
   made-table {count} {used} {n} t {t₁} {t₂} q e₁ e₂ p₃ p₄ p₅ h =

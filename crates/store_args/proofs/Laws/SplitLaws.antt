@@ -1,4 +1,4 @@
--- Laws of arguments that stand one behind the other: the one at a position, and those behind it. Assumes nothing.
+-- Laws of arguments that follow one another: the one at a position, and those after it. Assumes nothing.
 use mathlib.Core.Path.{_≡_, refl, ap, _∙_}
 use mathlib.Core.Bool.{Bool, true, false}
 use mathlib.Core.List.{List, [], _∷_}
@@ -14,7 +14,7 @@ use Rattle.slices.proofs.Laws.TextLaws.{end-within}
 use Rattle.store_args.specs.Arguments.{split}
 use Rattle.store_args.specs.Inner.Filling.{nextArg}
 
--- the first argument ends where the first 0 stands
+-- the first argument ends where the first 0 is
 abbrev First : List ℕ → Type 0
 First s = let n = run (other 0) s in split s ≡ take n s ∷ split (drop (suc n) s)
 
@@ -33,7 +33,7 @@ first : (b : ℕ) (s : List ℕ) → First (b ∷ s)
 first b [] = one b (eqb b 0) refl
 first b (a ∷ s) = more b (a ∷ s) (eqb b 0) refl (first a s)
 
--- no byte of a list stands behind its end
+-- a list has no bytes after its end
 drop-min : (n : ℕ) (s : List ℕ) → drop (min n (length s)) s ≡ drop n s
 drop-min n s = go (decLe n (length s))
   where
@@ -60,7 +60,7 @@ module _ (s : List ℕ) (at : ℕ) where
     next-within : (at < nextArg s at) × (nextArg s at ≤ length s)
     next-within = let w = end-within (other 0) s at (omega arith) refl in omega arith
 
--- ---- where a walk stands after k arguments: the next begins at `at`
+-- ---- where a walk is after k arguments: the next begins at `at`
 pub record Walk (s : List ℕ) (k at : ℕ) : Type 0 where
   pub within : at ≤ length s
   pub few : k ≤ at

@@ -1,4 +1,4 @@
--- `store_args::given_by` meets its contract: the tests are those of the definition, and the colon stands before the mode. Assumes nothing.
+-- `store_args::given_by` meets its contract: the tests are those of the definition, and the colon is before the mode. Assumes nothing.
 use Rattle.slices.proofs.Laws.SearchLaws.{last-le}
 use Rattle.store_args.specs.declared.Fault.the-variants.{LongName, NoColon}
 use Rattle.store_args.proofs.Laws.GivenLaws.{is-wrong, given-long, given-plain, given-mode}

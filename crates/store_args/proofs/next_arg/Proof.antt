@@ -1,4 +1,4 @@
--- `store_args::next_arg` meets its contract: behind the 0 that ends an argument, or the end. Assumes nothing.
+-- `store_args::next_arg` meets its contract: after the 0 that ends an argument, or at the end. Assumes nothing.
 use native.Mathlib.Omega.{arith}
 use borrow.Author.Needs.{needs}
 use Rattle.slices.proofs.Laws.TextLaws.{end-within}

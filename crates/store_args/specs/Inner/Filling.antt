@@ -41,7 +41,7 @@ pub record Arrays : Type 0 where
 abbrev pub arrays : List ℕ → List ℕ → List ℕ → Arrays
 arrays ms ls ns = record { modes = ms; lengths = ls; names = ns }
 
--- a store more stands in the arrays, as number k, its name up to where the answer says
+-- one store more is in the arrays, at index k, its name up to where the answer says
 pub record OneOf (g : arguments.Given) (k used : ℕ) (a b : Arrays) (r : One) : Type 0 where
   pub used-to : (end : ℕ) → r ≡ Used end → (e : Entry) × ((g ≡ arguments.store e) × ((b .modes ≡ set (a .modes) k (e .mode)) × ((b .lengths ≡ set (a .lengths) k (length (e .name))) × WrittenAt (a .names) (b .names) used end (e .name))))
   pub bad : (f : Fault) → r ≡ Amiss f → g ≡ arguments.wrong f
@@ -58,7 +58,7 @@ pub record FilledBy (s : Stores) (a : Arrays) (r : Filled) : Type 0 where
   pub filled : (count used : ℕ) → r ≡ All count used → (es : List Entry) × ((s ≡ stores es) × Hold es count used a)
   pub bad : (i : ℕ) (f : Fault) → r ≡ First i f → s ≡ wrongAt i f
 
--- the table's bytes stand at the front of the buffer
+-- the table's bytes are at the front of the buffer
 pub record MadeOf (s : Stores) (buffer : List ℕ) (r : Made) : Type 0 where
   pub made : (n : ℕ) → r ≡ Table n → (n ≤ length buffer) × ((es : List Entry) × ((s ≡ stores es) × (take n buffer ≡ table.tableOf es)))
   pub bad : (i : ℕ) (f : Fault) → r ≡ Bad i f → s ≡ wrongAt i f

@@ -1,4 +1,4 @@
--- 18 is not due exactly if no two entries have one name. Assumes nothing.
+-- 18 is not the answer exactly if no two entries share a name. Assumes nothing.
 use mathlib.Core.Path.{_≡_, refl, sym}
 use mathlib.Core.Bool.{Bool, true, false, cond, _||_}
 use mathlib.Core.List.{List, [], _∷_}

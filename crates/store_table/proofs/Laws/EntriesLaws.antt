@@ -13,7 +13,7 @@ use Rattle.store_table.proofs.Laws.NamesLaws.{has-next}
 use Rattle.store_table.specs.Inner.Index.{EntryAt, Marked}
 use Rattle.store_table.specs.declared.Twin.the-variants.{No, At}
 
--- ---- the ready stores are counted by their marks: so many of the first k
+-- ---- the ready stores are counted by their marks: this many of the first k
 pub record Ready (es : List Entry) (marks : List ℕ) (k ready : ℕ) : Type 0 where
   pub few : ready ≤ k
   pub rest : (names : List (List ℕ)) → Marked es names marks → ready + readyCount (drop k es) names ≡ readyCount es names

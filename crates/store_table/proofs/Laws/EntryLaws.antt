@@ -1,4 +1,4 @@
--- What is known of each entry of a well-made table or list, the names of entries, and that no two entries have one name where there is no
+-- What is known of each entry of a well-made table or list, the names of entries, and that no two entries share a name where there is no
 -- twin. Assumes nothing.
 use mathlib.Core.Path.{_≡_, refl, sym, ap, _∙_}
 use mathlib.Core.Bool.{Bool, true, false, cond, _&&_, _||_, true≢false, and-eq-true-iff}
@@ -20,7 +20,7 @@ use Rattle.store_table.proofs.Laws.StoresLaws.{made}
 use Rattle.store_table.specs.declared.Twin.{Twin}
 use Rattle.store_table.specs.declared.Twin.the-variants.{No, At}
 
--- ---- the names of entries: an entry stands behind each, and each entry has its name among them
+-- ---- the names of entries: each is some entry's, and each entry has its name among them
 pub name-entry : (w : List ℕ) (es : List Entry) → List·Memᴰ w (allNames es) → (e : Entry) × List·Memᴰ e es × (e .name ≡ w)
 unfolding allNames
 name-entry w es m = Memᴰ·of-map _ es m
@@ -29,7 +29,7 @@ pub entry-named : (e : Entry) (es : List Entry) → List·Memᴰ e es → List·
 unfolding allNames
 entry-named e es m = Memᴰ·map _ m
 
--- ---- the names of the write-only ones: such an entry stands behind each, and each such entry has its name among them
+-- ---- the names of the write-only ones: each is some such entry's, and each such entry has its name among them
 pub write-only-entry : (w : List ℕ) (es : List Entry) → List·Memᴰ w (writeOnlyNames es) → (e : Entry) × List·Memᴰ e es × (e .mode ≡ writeOnly) × (e .name ≡ w)
 unfolding writeOnlyNames
 write-only-entry w [] m = absurd (List·Memᴰ·not-nil m)
@@ -62,7 +62,7 @@ write-only-few (e ∷ es) = go (eqb (e .mode) writeOnly) (write-only-few es)
     go true h = omega arith
     go false h = omega arith
 
--- ---- an entry that stands at a place is one of them
+-- ---- an entry at an index is one of them
 pub at-below : (es : List Entry) (k : ℕ) {x : Entry} {xs : List Entry} → drop k es ≡ x ∷ xs → k < length es
 at-below es k e = omega (arith, rw e at (length-drop k es))
 
@@ -78,7 +78,7 @@ at-mem es k e = rw take-length at (at-take es (length es) k (at-below es k e) e)
 pub has-at : (es : List Entry) (first k : ℕ) {x : Entry} {xs : List Entry} → k < first → drop k es ≡ x ∷ xs → has (x .name) (allNames (take first es)) ≡ true
 has-at es first k {x} lt e = mem-has (entry-named x (take first es) (at-take es first k lt e))
 
--- ---- no two entries of one name where there is no twin
+-- ---- no two entries share a name where there is no twin
 no-twin : (b : Bool) (i : ℕ) (r : Twin) → cond b (At i) r ≡ No → (b ≡ false) × (r ≡ No)
 no-twin true i r e = absurd (let z : _≡_ {A = ℕ} 0 1 = cc in omega arith)
 no-twin false i r e = (refl, e)
@@ -117,7 +117,7 @@ pub one-of-name : (es : List Entry) → twinOf es ≡ No → (e f : Entry) → L
 unfolding twinOf
 one-of-name es t = one-from [] 0 es t
 
--- nor does one name stand at two places
+-- nor is one name at two indices
 place-from : (seen : List (List ℕ)) (i : ℕ) (es : List Entry) → twinFrom seen i es ≡ No → (k j : ℕ) {x y : Entry} {xs ys : List Entry} → drop k es ≡ x ∷ xs → drop j es ≡ y ∷ ys → x .name ≡ y .name → k ≡ j
 place-from seen i [] t k j p q n = absurd (let z : _≡_ {A = ℕ} 0 1 = cc (drop-nil {A = Entry} k) in omega arith)
 place-from seen i (z ∷ es) t zero zero p q n = refl

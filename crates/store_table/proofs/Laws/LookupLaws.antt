@@ -1,4 +1,4 @@
--- What a look for a name in a whole table tells: it is no entry's, or it is that of an entry whose index is known. Assumes nothing.
+-- What looking a name up in a whole table finds: no entry has it, or an entry whose index is known. Assumes nothing.
 use mathlib.Core.Path.{_≡_, refl}
 use mathlib.Core.Bool.{true, false}
 use mathlib.Core.List.{List, List·Memᴰ, Memᴰ·cast}

@@ -12,18 +12,18 @@ use Rattle.little_endian.proofs.Laws.BytesLaws.{Has, length-leBytes, at-number}
 use Rattle.store_table.specs.Names.{sameName}
 use Rattle.store_table.proofs.Laws.MemberLaws.{same-eq}
 
--- names of which f says two things are not the same
+-- names for which f gives different answers are different
 pub same-not : {A : Type 0} {a b : List ℕ} (f : List ℕ → A) → (f a ≡ f b → ⊥) → sameName a b ≡ false
 same-not {A} {a} {b} f h = not-eq-not .0 (λ e. h (ap f (same-eq a b e)))
 
--- names that begin alike
+-- names that begin the same way
 same-behind : (p a b : List ℕ) → sameName (p ++ a) (p ++ b) ≡ sameName a b
 unfolding sameName
 same-behind [] a b = refl
 same-behind (x ∷ p) a b = rw (eq-eqb x x refl) (same-behind p a b)
 
 module _ (at k : ℕ) where
-  -- what stands from a position on begins with a number in k bytes
+  -- the part from a position on begins with a number in k bytes
   number-first : (s : List ℕ) → AllBytes s → at + k ≤ length s → drop at s ≡ leBytes k (leAt s at k) ++ drop (at + k) s
   unfolding Has
   number-first s b fits =

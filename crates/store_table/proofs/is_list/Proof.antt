@@ -1,4 +1,4 @@
--- `store_table::is_list` meets its contract: all modes are the first. Assumes nothing.
+-- `store_table::is_list` meets its contract: all modes are 0, the first of them. Assumes nothing.
 use borrow.Author.Needs.{needs}
 use Rattle.store_table.proofs.is_list.Statement.{statement}
 use Rattle.store_table.proofs.is_list.Tie as tie

@@ -1,4 +1,4 @@
--- `store_table::mode_at` meets its contract: the modes stand in the order of the entries. Assumes nothing.
+-- `store_table::mode_at` meets its contract: the modes are in the order of the entries. Assumes nothing.
 use borrow.Author.Needs.{needs}
 use Rattle.store_table.proofs.Laws.WalkLaws.{mode-of}
 use Rattle.store_table.proofs.mode_at.Statement.{statement}

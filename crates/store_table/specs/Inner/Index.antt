@@ -27,7 +27,7 @@ unfoldable pub hashOf : List ℕ → ℕ
 unfolding keyOf
 hashOf w = (keyOf w / 4294967296 + keyOf w % 4294967296) * 1640531527 / 16777216 % 512
 
--- where a walk stands after k entries: the next name begins at `at`, the names that are left lie within the bytes, and the
+-- where a walk is after k entries: the next name begins at `at`, the names that are left lie within the bytes, and the
 -- entries that are left are cut from there
 pub record Standing (s : List ℕ) (count k at : ℕ) : Type 0 where
   pub laid : TableInBounds s

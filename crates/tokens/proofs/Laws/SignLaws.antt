@@ -1,4 +1,4 @@
--- Laws of where the text goes on after a bracket, a comma or a sign, by the class of the next token's first byte.
+-- Laws of where the text continues after a bracket, a comma or a sign, by the class of the next token's first byte.
 -- Assumes nothing.
 use mathlib.Core.Path.{_≡_, refl, sym, ap, _∙_}
 use mathlib.Core.Bool.{Bool, true, false, cond}
@@ -51,7 +51,7 @@ module _ (s : List ℕ) (p b : ℕ) where
       (λ (i : k < bar). let j : k ≡ ampersand = omega arith in rw j (either-way ampersand (doubled s p) _ _))
       (eq-or-lt-of-le h)
 
-  -- a bare word is no bracket and no comma
+  -- an unquoted word is no bracket and no comma
   bare-off : (k : ℕ) → k ≤ comma → Out k (unquotedAt s p)
   unfolding nextOfClass unquotedAt unquotedTo
   bare-off k h =

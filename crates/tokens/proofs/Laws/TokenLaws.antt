@@ -1,4 +1,4 @@
--- Laws of tokens: the token at a position by the class of its first byte, what its numbers keep to, and the list of tokens.
+-- Laws of tokens: the token at a position by the class of its first byte, the bounds of its numbers, and the list of tokens.
 -- Assumes nothing.
 use mathlib.Core.Path.{_≡_, refl, sym, ap, _∙_}
 use mathlib.Core.Bool.{Bool, true, false, cond, and-eq-true-iff}
@@ -33,7 +33,7 @@ module _ (s : List ℕ) (at : ℕ) {p : ℕ} (e : p ≡ runEnd (ofClass blank) s
   unfolding tokenAt startAt
   at-token h q = rw (← e, lt-ltb p (length s) h, q)
 
--- ---- what a token's numbers keep to
+-- ---- the bounds of a token's numbers
 -- either way of a test
 pub by-cond : {A : Type 0} (P : A → Type 0) (v : Bool) {a b : A} → (v ≡ true → P a) → (v ≡ false → P b) → P (cond v a b)
 by-cond P true f g = f refl
@@ -85,7 +85,7 @@ lexed s at =
     (λ q. token s at p (end-ge (ofClass blank) s at) (ltb-true _ _ q))
     (λ _. refl)
 
--- where the text goes on lies further on, and in the text
+-- where the text continues lies further on, and in the text
 next-on : (t : Token) {len at e : ℕ} → Lexed len at t → nextOf t ≡ To e → (at < e) × (e ≤ len)
 unfolding nextOf
 next-on (End p) {len} {at} {e} l h = let z : _≡_ {A = ℕ} 0 1 = cc in absurd (omega arith)
@@ -109,7 +109,7 @@ onward-some : (t : Token) (n : Next) (k : ℕ → List Token) → 0 < length (on
 onward-some t Off k = omega arith
 onward-some t (To e) k = omega arith
 
--- with fuel enough the list does not depend on it
+-- with enough fuel the list does not depend on it
 fuel : (f g : ℕ) (s : List ℕ) (at : ℕ) → length s - at < f → length s - at < g → tokensBy f s at ≡ tokensBy g s at
 unfolding tokensBy
 fuel zero g s at a b = absurd (omega arith)
@@ -118,7 +118,7 @@ fuel (suc f) (suc g) s at a b =
     onward-same (tokenAt s at) (nextOf (tokenAt s at)) (tokensBy f s) (tokensBy g s)
     (λ e h. let l = goes-on s at h in fuel f g s e (omega arith) (omega arith))
 
--- the tokens from a position on are the token there and those from where the text goes on
+-- the tokens from a position on are the token there and those from where the text continues
 pub tokens-at : (s : List ℕ) (at : ℕ) → tokensFrom s at ≡ onward (tokenAt s at) (nextOf (tokenAt s at)) (tokensFrom s)
 unfolding tokensFrom tokensBy
 tokens-at s at =
@@ -130,7 +130,7 @@ tokens-at s at =
 pub tokens-are : (s : List ℕ) (at : ℕ) {t : Token} → tokenAt s at ≡ t → tokensFrom s at ≡ onward t (nextOf t) (tokensFrom s)
 tokens-are s at h = tokens-at s at ∙ ap (λ (t : Token). onward t (nextOf t) (tokensFrom s)) h
 
--- of a token after which the text goes on
+-- of a token after which the text continues
 pub tokens-on : (s : List ℕ) (at : ℕ) {e : ℕ} → nextOf (tokenAt s at) ≡ To e → tokensFrom s at ≡ tokenAt s at ∷ tokensFrom s e
 tokens-on s at h = tokens-at s at ∙ ap (λ (n : Next). onward (tokenAt s at) n (tokensFrom s)) h
 
@@ -138,7 +138,7 @@ tokens-on s at h = tokens-at s at ∙ ap (λ (n : Next). onward (tokenAt s at) n
 pub tokens-end : (s : List ℕ) (at : ℕ) → nextOf (tokenAt s at) ≡ Off → tokensFrom s at ≡ tokenAt s at ∷ []
 tokens-end s at h = tokens-at s at ∙ ap (λ (n : Next). onward (tokenAt s at) n (tokensFrom s)) h
 
--- the tokens left fall by one with each token after which the text goes on
+-- the tokens left fall by one with each token after which the text continues
 pub left-on : (s : List ℕ) (at : ℕ) {e : ℕ} → nextOf (tokenAt s at) ≡ To e → length (tokensFrom s at) ≡ length (tokensFrom s e) + 1
 left-on s at {e} h = ap length (tokens-on s at h) ∙ sym (add-one (length (tokensFrom s e)))
 

@@ -1,4 +1,4 @@
--- What the functions that read tokens promise each other: what stands nextOfClass a sign, and where the numbers of a token lie. Assumes nothing.
+-- What the functions that read tokens promise each other: where the text continues after a sign, and the bounds of a token's numbers. Assumes nothing.
 use Prim.Native.Nat.{ℕ, _+_, _≤_, _<_}
 use mathlib.Core.Path.{_≡_}
 use mathlib.Core.Bool.{cond}
@@ -12,7 +12,7 @@ use Rattle.tokens.specs.declared.Scanned.{Scanned}
 use Rattle.tokens.specs.declared.Scanned.the-variants.{Clean}
 use Rattle.tokens.specs.Token.{unless}
 
--- where the text goes on after a token, if it begins with a byte of this class and is no word: a bracket, a comma or a sign
+-- where the text continues after a token, if it begins with a byte of this class and is no word: a bracket, a comma or a sign
 unfoldable pub nextOfClass : ℕ → Token → Next
 nextOfClass k (End p) = Off
 nextOfClass k (Open p n) = cond (eqb k openBracket) (To n) Off
@@ -27,7 +27,7 @@ nextOfClass k (Fault f) = Off
 abbrev pub lastOf : Token → Scanned
 lastOf t = unless t Clean
 
--- what the numbers of a token at or after `at`, in a text of `len` bytes, keep to; a fault is one of 4 to 6
+-- the bounds of the numbers of a token at or after `at`, in a text of `len` bytes; a fault is one of 4 to 6
 abbrev pub Lexed : ℕ → ℕ → Token → Type 0
 Lexed len at (End p) = p ≡ len
 Lexed len at (Open p n) = (at ≤ p) × (n ≡ p + 1) × (n ≤ len)

@@ -34,7 +34,7 @@ use Rattle.verdict.specs.declared.Verdict.{Verdict}
 use Rattle.verdict.specs.declared.Verdict.the-variants.{Pass, Refused}
 use Rattle.verdict.specs.Inner.Grades.{WithStores}
 
--- where 21 is not due, 22 is tested without a look at whether there are write-only stores
+-- where 21 is not the answer, 22 is tested without a look at whether there are write-only stores
 pub archived-by : (r : Rule) (es : List Entry) → evictsUnconfirmed r es ≡ false → evictsOnArchive r es ≡ evict r (envOf es oldest (writeOnlyNames es))
 archived-by r es e = go (writeOnlyNames es)
   where

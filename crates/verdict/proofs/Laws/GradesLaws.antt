@@ -34,9 +34,9 @@ none-has : (w : List ℕ) → has w [] ≡ false
 unfolding has
 none-has w = refl
 
--- ---- of stores of which no two have one name
+-- ---- of stores of which no two share a name
 module _ (es : List Entry) (lone : twinOf es ≡ Lone) where
-  -- a store's name is a write-only store's just where its mode is so
+  -- a store's name is a write-only store's exactly where its mode is write-only
   write-only-has : (x : Entry) → List·Memᴰ x es → has (x .name) (writeOnlyNames es) ≡ eqb (x .mode) writeOnly
   write-only-has x m = both-ways to from
     where

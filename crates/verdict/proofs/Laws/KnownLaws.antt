@@ -1,4 +1,4 @@
--- 20 is due exactly where a rule has a name that is no store's. Assumes nothing.
+-- 20 is the answer exactly where a rule has a name that is no store's. Assumes nothing.
 use mathlib.Core.Path.{_≡_, refl}
 use mathlib.Core.Bool.{Bool, true, false, cond}
 use mathlib.Core.List.{List, _++_, List·Memᴰ, List·Memᴰ·head, List·Memᴰ·tail, List·Memᴰ·not-nil, List·Memᴰ·append-cases, Memᴰ·append-left, Memᴰ·append-right}

@@ -1,4 +1,4 @@
--- The first unknown name by a walk over the cells in which a rule stands: it is the first one of the rule. Assumes nothing.
+-- The first unknown name, by a walk over a rule's cells, is the first one of the rule. Assumes nothing.
 use mathlib.Core.Path.{_≡_, refl, sym, _∙_}
 use mathlib.Core.Bool.{Bool, not, cond}
 use mathlib.Core.List.{List}

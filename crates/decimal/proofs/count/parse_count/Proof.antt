@@ -1,4 +1,4 @@
--- `decimal::count::parse_count` meets its contract: the bytes left, behind the number so far, write the count. Assumes nothing.
+-- `decimal::count::parse_count` meets its contract: the bytes left, read after the number so far, write the count. Assumes nothing.
 use mathlib.Core.Path.{_≡_, sym, _∙_}
 use mathlib.Core.Bool.{true}
 use Prim.Native.Nat.{_+_, _-_, _*_, _^_, _≤_, _<_}
@@ -36,7 +36,7 @@ digit c = sym (c .before .is-digit .ensures) ∙ not-false _ (c .if2 .left)
 digit-of-requires : tie.Need-digit-of-requires Inv-loop μ-loop
 digit-of-requires c κs = digit c
 
--- the bytes behind it, behind the number with it, write the count
+-- the bytes after it, read after the number that now includes it, write the count
 on : (c : tie.After-digit-of Inv-loop μ-loop) → let l = c .before .before .before .before .before .loop in let w = c .before .before .before .before .before .before .before .before .before .args .word .now in countFrom (l .value * 10 + c .digit-of .result) (drop (l .i + 1) w) ≡ countOf w
 on c =
     let l = c .before .before .before .before .before .loop in

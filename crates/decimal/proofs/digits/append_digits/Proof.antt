@@ -1,4 +1,4 @@
--- `decimal::digits::append_digits` meets its contract: the digits are put so that they end where their number says. Assumes nothing.
+-- `decimal::digits::append_digits` meets its contract: the digits are written so that they end where their number says. Assumes nothing.
 use native.Mathlib.Omega.{arith}
 use borrow.Author.Needs.{needs}
 use Rattle.slices.proofs.Laws.WrittenLaws.{put-from}

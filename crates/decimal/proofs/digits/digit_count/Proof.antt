@@ -1,4 +1,4 @@
--- `decimal::digits::digit_count` meets its contract: the digits counted and those in front of them, of which one is counted too, are the number's. Assumes nothing.
+-- `decimal::digits::digit_count` meets its contract: the digits counted and those before them, of which one is counted too, are the number's. Assumes nothing.
 use mathlib.Core.Path.{_≡_, refl}
 use Prim.Native.Nat.{_+_, _≤_}
 use native.Mathlib.Omega.{arith}

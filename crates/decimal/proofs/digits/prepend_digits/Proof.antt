@@ -1,4 +1,4 @@
--- `decimal::digits::prepend_digits` meets its contract: the digits put stand behind those of what is left. Assumes nothing.
+-- `decimal::digits::prepend_digits` meets its contract: the digits already written come after those of what is left. Assumes nothing.
 use mathlib.Core.Path.{_≡_, refl}
 use Prim.Native.Nat.{_≤_}
 use native.Mathlib.Omega.{arith}

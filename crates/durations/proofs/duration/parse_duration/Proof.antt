@@ -24,7 +24,7 @@ loop-holds c =
     let e = c .class-end .ensures in
     (end-within _ (c .before .before .args .word .now) 0 (omega arith) e .1, (omega arith, parts-start _ e))
 
--- what was read is what stands there
+-- what was read is what is there
 read : (c : tie.After-part-at Inv-loop μ-loop) {p : Part} → c .part-at .result ≡ p → let l = c .before .before .loop in partAt (unitAt (l .rank)) (c .before .before .before .before .before .args .word .now) (l .at) ≡ p
 read c e = sym (c .part-at .ensures) ∙ e
 
