@@ -1,8 +1,6 @@
 // The grammar: what a text reads as, the types that a primary begins as, and the function that a word names.
 ghost use mathlib.Core.Path.{_≡_};
 ghost use Rattle.refusals.specs.Refusals.{refusal};
-ghost use Rattle.image.specs.Encode.{leafKind, leafArg, joinKind, joinArg};
-ghost use Rattle.grammar.specs.Inner.Starts.{leafOf, joinOf};
 ghost use Rattle.grammar.specs.Grammar.{functionOf};
 use ascii::eq_ignore_ascii_case;
 use refusals::Refusal;
@@ -40,48 +38,6 @@ pub enum PrimaryStart {
         next: usize,
     },
     Refused(Refusal),
-}
-
-// The kind of a leaf in the image.
-pub fn test_kind(t: Test) -> u32
-    ensures { λ r. ⌜ r ≡ leafKind (leafOf t) ⌝ }
-{
-    match t {
-        Test::OlderThan(_) => image::OLDER_THAN,
-        Test::Readable(_) => image::READABLE,
-    }
-}
-
-// Its argument.
-pub fn test_arg(t: Test) -> u64
-    ensures { λ r. ⌜ r ≡ leafArg (leafOf t) 0 ⌝ }
-{
-    match t {
-        Test::OlderThan(milliseconds) => milliseconds,
-        Test::Readable(count) => count,
-    }
-}
-
-// The kind of a combinator in the image.
-pub fn combinator_kind(c: Combinator) -> u32
-    ensures { λ r. ⌜ r ≡ joinKind (joinOf c) ⌝ }
-{
-    match c {
-        Combinator::AtLeast(_) => image::AT_LEAST,
-        Combinator::All => image::ALL,
-        Combinator::Any => image::ANY,
-    }
-}
-
-// Its argument.
-pub fn combinator_arg(c: Combinator) -> u64
-    ensures { λ r. ⌜ r ≡ joinArg (joinOf c) ⌝ }
-{
-    match c {
-        Combinator::AtLeast(count) => count,
-        Combinator::All => 0,
-        Combinator::Any => 0,
-    }
 }
 
 // A primary that does not begin, refused with a number at a place.

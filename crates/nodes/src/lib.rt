@@ -6,15 +6,11 @@ ghost use lib.ListN.{length, set, take};
 ghost use Rattle.slices.specs.Text.{part};
 ghost use Rattle.refusals.specs.Refusals.{refusal};
 ghost use Rattle.rules.specs.Rule.{named};
-ghost use Rattle.image.specs.Encode.{tag};
+ghost use Rattle.image.specs.Encode.{tag, leafKind, leafArg, joinKind, joinArg};
 ghost use Rattle.grammar.specs.Inner.Starts.{leafOf, joinOf};
 ghost use Rattle.nodes.specs.Inner.Parses.{arrays, NameRoom, Written, JoinRoom, Joined};
 use grammar::Combinator;
 use grammar::Test;
-use grammar::combinator_arg;
-use grammar::combinator_kind;
-use grammar::test_arg;
-use grammar::test_kind;
 use image::name_arg;
 use image::tag_of;
 use refusals::Refusal;
@@ -29,6 +25,48 @@ pub fn refuse(number: u8, place: usize) -> ParseEnd
     ensures { λ r. ⌜ r ≡ ParseEnd.Refused (refusal number place) ⌝ }
 {
     ParseEnd::Refused(Refusal { number, place })
+}
+
+// The kind of a leaf that is no name.
+fn test_kind(t: Test) -> u32
+    ensures { λ r. ⌜ r ≡ leafKind (leafOf t) ⌝ }
+{
+    match t {
+        Test::OlderThan(_) => image::OLDER_THAN,
+        Test::Readable(_) => image::READABLE,
+    }
+}
+
+// Its argument.
+fn test_arg(t: Test) -> u64
+    ensures { λ r. ⌜ r ≡ leafArg (leafOf t) 0 ⌝ }
+{
+    match t {
+        Test::OlderThan(milliseconds) => milliseconds,
+        Test::Readable(count) => count,
+    }
+}
+
+// The kind of a combinator.
+fn combinator_kind(c: Combinator) -> u32
+    ensures { λ r. ⌜ r ≡ joinKind (joinOf c) ⌝ }
+{
+    match c {
+        Combinator::AtLeast(_) => image::AT_LEAST,
+        Combinator::All => image::ALL,
+        Combinator::Any => image::ANY,
+    }
+}
+
+// Its argument.
+fn combinator_arg(c: Combinator) -> u64
+    ensures { λ r. ⌜ r ≡ joinArg (joinOf c) ⌝ }
+{
+    match c {
+        Combinator::AtLeast(count) => count,
+        Combinator::All => 0,
+        Combinator::Any => 0,
+    }
 }
 
 // Writes node n: its kind, its size, its argument.
