@@ -5,7 +5,7 @@ ghost use lib.ListN.{length, set};
 ghost use Rattle.store_table.specs.Stores.{TableInBounds, countIn, entriesIn, twinOf};
 ghost use Rattle.store_table.specs.Inner.Index.{Indexed, Blank};
 use lookup::find_by;
-use name_hash::hash_of;
+use lookup::hash::hash_of;
 use store_table::Found;
 use store_table::Twin;
 use store_table::count_of;

@@ -1,9 +1,9 @@
--- `name_hash::hash_of` meets its contract: it computes as the definition says. Assumes nothing.
+-- `lookup::hash::hash_of` meets its contract: it computes as the definition says. Assumes nothing.
 use native.Mathlib.Omega.{arith}
 use borrow.Author.Needs.{needs}
 use Rattle.store_table.specs.Inner.Index.{hashOf}
-use Rattle.name_hash.proofs.hash_of.Statement.{statement}
-use Rattle.name_hash.proofs.hash_of.Tie as tie
+use Rattle.lookup.proofs.hash.hash_of.Statement.{statement}
+use Rattle.lookup.proofs.hash.hash_of.Tie as tie
 
 key-of-requires : tie.Need-key-of-requires
 key-of-requires c κs = search needs

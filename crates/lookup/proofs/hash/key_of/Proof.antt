@@ -1,12 +1,12 @@
--- `name_hash::key_of` meets its contract: its tests of the length are the definition's. Assumes nothing.
+-- `lookup::hash::key_of` meets its contract: its tests of the length are the definition's. Assumes nothing.
 use Prim.Native.Nat.{_-_, _/_}
 use native.Mathlib.Omega.{arith}
 use borrow.Author.Needs.{needs}
 use borrow.Author.Tests.{le-leb, lt-leb}
 use lib.ListN.{length}
 use Rattle.store_table.specs.Inner.Index.{keyOf}
-use Rattle.name_hash.proofs.key_of.Statement.{statement}
-use Rattle.name_hash.proofs.key_of.Tie as tie
+use Rattle.lookup.proofs.hash.key_of.Statement.{statement}
+use Rattle.lookup.proofs.hash.key_of.Tie as tie
 
 returns : tie.Need-returns
 unfolding keyOf
