@@ -1,11 +1,11 @@
--- `leaf_answers::leaf_says` meets its contract: each kind has its own line, and the other kinds are no leaf's. Assumes nothing.
+-- `evaluate::leaves::leaf_says` meets its contract: each kind has its own line, and the other kinds are no leaf's. Assumes nothing.
 use native.Mathlib.Omega.{arith}
 use borrow.Author.Needs.{needs}
-use Rattle.leaf_answers.specs.Inner.Known.{envIn}
+use Rattle.evaluate.specs.Inner.Known.{envIn}
 use Rattle.image.proofs.Laws.KindLaws.{above-leaf, no-leaf}
 use Rattle.evaluate.proofs.Laws.MeaningLaws.{says-named, says-older, says-readable}
-use Rattle.leaf_answers.proofs.leaf_says.Statement.{statement}
-use Rattle.leaf_answers.proofs.leaf_says.Tie as tie
+use Rattle.evaluate.proofs.leaves.leaf_says.Statement.{statement}
+use Rattle.evaluate.proofs.leaves.leaf_says.Tie as tie
 
 name-of-requires : tie.Need-name-of-requires
 name-of-requires c κs = c .before .before .before .before .pre .0 (c .match .keys1)

@@ -1,16 +1,16 @@
--- `leaf_answers::say_leaves` meets its contract: of the nodes before i each leaf has its number. Assumes nothing.
+-- `evaluate::leaves::say_leaves` meets its contract: of the nodes before i each leaf has its number. Assumes nothing.
 use mathlib.Core.Path.{_≡_, refl, sym, _∙_}
 use mathlib.Core.Logic.{⊎-elim}
 use Prim.Native.Nat.{_-_, _≤_, _<_}
 use native.Mathlib.Omega.{arith}
 use lib.ListN.{length, length-set}
 use borrow.Author.Needs.{needs}
-use Rattle.leaf_answers.specs.Inner.Known.{envIn, SaidTo}
+use Rattle.evaluate.specs.Inner.Known.{envIn, SaidTo}
 use Rattle.image.proofs.Laws.KindLaws.{no-leaf}
 use Rattle.image.proofs.Laws.CellLaws.{cell-what, name-inside}
-use Rattle.leaf_answers.proofs.Laws.SaidLaws.{said-skip, said-write}
-use Rattle.leaf_answers.proofs.say_leaves.Statement.{statement}
-use Rattle.leaf_answers.proofs.say_leaves.Tie as tie
+use Rattle.evaluate.proofs.Laws.SaidLaws.{said-skip, said-write}
+use Rattle.evaluate.proofs.leaves.say_leaves.Statement.{statement}
+use Rattle.evaluate.proofs.leaves.say_leaves.Tie as tie
 
 abbrev Inv-loop : tie.InvT-loop
 Inv-loop image n stores list view starts slots marks says₀ i₀ says i =

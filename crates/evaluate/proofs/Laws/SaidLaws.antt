@@ -10,9 +10,9 @@ use lib.ListN.{length, set}
 use Rattle.slices.proofs.Laws.WrittenLaws.{after-set}
 use Rattle.rules.specs.Rule.{Leaf}
 use Rattle.image.specs.Decode.{aLeaf, cellAt}
 use Rattle.evaluate.specs.Evict.{Env, leafSays}
 use Rattle.image.proofs.Laws.KindLaws.{NoLeaf}
-use Rattle.leaf_answers.specs.Inner.Known.{SaidTo}
+use Rattle.evaluate.specs.Inner.Known.{SaidTo}
 
 module _ (s : List ℕ) (n : ℕ) (says : List ℕ) (least : ℕ) (w : Env) {i : ℕ} (h : SaidTo s n says least w i) where
   -- node i is no leaf

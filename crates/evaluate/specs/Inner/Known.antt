@@ -8,8 +8,8 @@ use Rattle.rules.specs.Rule.{Leaf}
 use Rattle.image.specs.Decode.{aLeaf, cellAt}
 use Rattle.store_table.specs.Stores.{TableInBounds, countIn, entriesIn, allNames}
 use Rattle.store_table.specs.Inner.Index.{Indexed, Marked}
 use Rattle.evaluate.specs.Evict.{Env, leafSays}
-use Rattle.leaf_answers.specs.declared.EnvNumbers.{EnvNumbers}
+use Rattle.evaluate.specs.declared.leaves.EnvNumbers.{EnvNumbers}
 
 -- a table that is indexed, and a list whose names are marked in it
 pub record Known (stores list starts slots marks : List ℕ) : Type 0 where
