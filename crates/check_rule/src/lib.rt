@@ -12,13 +12,13 @@ ghost use Rattle.store_table.specs.Inner.Index.{Indexed};
 ghost use Rattle.verdict.specs.Check.{checkRule};
 ghost use Rattle.verdict.specs.Inner.Grades.{WithStores};
 use evaluate::evaluate;
-use grades::grade_leaves;
 use store_index::twin_of;
 use store_table::Twin;
 use store_table::count_of;
 use store_table::is_table;
 use verdict::Unknown;
 use verdict::Verdict;
+use verdict::grades::grade_leaves;
 use verdict::refuse;
 
 // Checks the rule of an image of n nodes against stores of which no two have one name: 20, 21, 22.

@@ -1,10 +1,10 @@
--- `grades::test_grade` meets its contract: each kind has its own line, and the other kinds are no leaf's. Assumes nothing.
+-- `verdict::grades::test_grade` meets its contract: each kind has its own line, and the other kinds are no leaf's. Assumes nothing.
 use native.Mathlib.Omega.{arith}
 use borrow.Author.Tests.{le-leb, lt-leb}
 use Rattle.image.proofs.Laws.KindLaws.{above-leaf, no-leaf}
 use Rattle.verdict.proofs.Laws.GradesLaws.{older-graded, readable-graded}
-use Rattle.grades.proofs.test_grade.Statement.{statement}
-use Rattle.grades.proofs.test_grade.Tie as tie
+use Rattle.verdict.proofs.grades.test_grade.Statement.{statement}
+use Rattle.verdict.proofs.grades.test_grade.Tie as tie
 
 returns : tie.Need-returns
 returns c = λ s n es l e other lone. older-graded es lone s n _ l e (c .before .match .keys1) (le-leb _ _ (c .if1 .taken))

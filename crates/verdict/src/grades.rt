@@ -11,8 +11,10 @@ ghost use Rattle.image.specs.Inner.Standing.{EncodedAt};
 ghost use Rattle.image.specs.Inner.Subtree.{ValidSubtree};
 ghost use Rattle.store_table.specs.Stores.{Entry, twinOf, countIn, entriesIn};
 ghost use Rattle.store_table.specs.Inner.Index.{Indexed};
 ghost use Rattle.verdict.specs.Inner.Grades.{Graded, nameGrade, GradedAll, WithStores};
 ghost use Rattle.verdict.specs.Check.{unknownIn};
+use crate::OLDEST;
+use crate::Unknown;
 use image::name_of;
 use image::node_at;
 use lookup::find;
@@ -20,8 +22,6 @@ use store_table::Found;
 use store_table::Twin;
 use store_table::WRITE_ONLY;
 use store_table::mode_at;
-use verdict::OLDEST;
-use verdict::Unknown;
 
 // The grade of a leaf that is no name: 2 where it says evict with nothing confirmed, else 0. Each kind by its own line.
 fn test_grade(kind: u32, arg: u64) -> u8

@@ -1,8 +1,8 @@
--- `grades::name_grade` meets its contract: the mode is write-only or it is not. Assumes nothing.
+-- `verdict::grades::name_grade` meets its contract: the mode is write-only or it is not. Assumes nothing.
 use borrow.Author.Tests.{eq-eqb, ne-eqb}
 use Rattle.store_table.specs.Stores.{writeOnly}
-use Rattle.grades.proofs.name_grade.Statement.{statement}
-use Rattle.grades.proofs.name_grade.Tie as tie
+use Rattle.verdict.proofs.grades.name_grade.Statement.{statement}
+use Rattle.verdict.proofs.grades.name_grade.Tie as tie
 
 returns : tie.Need-returns
 returns c = rw (eq-eqb _ writeOnly (c .if1 .taken))

@@ -1,4 +1,4 @@
--- `grades::grade_leaves` meets its contract: after i turns each of the first i nodes that is a name is a store's, and each that is a leaf has its
+-- `verdict::grades::grade_leaves` meets its contract: after i turns each of the first i nodes that is a name is a store's, and each that is a leaf has its
 -- grade. Assumes nothing.
 use mathlib.Core.Path.{_≡_, refl, _∙_}
 use mathlib.Core.Logic.{⊎-elim}
@@ -11,12 +11,12 @@ use Rattle.store_table.specs.Stores.{entriesIn}
 use Rattle.store_table.proofs.Laws.StoresLaws.{well-made-laid}
 use Rattle.store_table.proofs.Laws.LookupLaws.{found-none, found-at}
 use Rattle.image.proofs.Laws.CellLaws.{cell-what, name-inside}
 use Rattle.verdict.specs.Inner.Grades.{GradedUpTo}
 use Rattle.verdict.proofs.Laws.GradesLaws.{graded-next, name-graded}
 use Rattle.verdict.proofs.Laws.UnknownLaws.{unknownUpTo, none-next, first-here, first-nowhere, other-known, name-says}
 use Rattle.verdict.specs.declared.Unknown.the-variants.{No}
-use Rattle.grades.proofs.grade_leaves.Statement.{statement}
-use Rattle.grades.proofs.grade_leaves.Tie as tie
+use Rattle.verdict.proofs.grades.grade_leaves.Statement.{statement}
+use Rattle.verdict.proofs.grades.grade_leaves.Tie as tie
 
 abbrev Inv-loop : tie.InvT-loop
 Inv-loop image n stores starts slots grades₀ i₀ grades i =
