@@ -1,4 +1,4 @@
--- `check_rule::check_in` meets its contract: the tests are 17 and 18, and where there are stores the rest. Assumes nothing.
+-- `safety::check::check_in` meets its contract: the tests are 17 and 18, and where there are stores the rest. Assumes nothing.
 use mathlib.Core.Path.{_≡_, sym, _∙_}
 use mathlib.Core.Bool.{true}
 use native.Mathlib.Omega.{arith}
@@ -10,8 +10,8 @@ use Rattle.store_table.proofs.Laws.BlankLaws.{zeros-blank}
 use Rattle.store_table.specs.declared.Twin.the-variants.{No}
 use Rattle.verdict.specs.Inner.Grades.{WithStores}
 use Rattle.verdict.proofs.Laws.CheckLaws.{refused-17, refused-18, passed-none}
-use Rattle.check_rule.proofs.check_in.Statement.{statement}
-use Rattle.check_rule.proofs.check_in.Tie as tie
+use Rattle.safety.proofs.check.check_in.Statement.{statement}
+use Rattle.safety.proofs.check.check_in.Tie as tie
 
 -- what the tests that were passed say
 the-table : (c : tie.Else1) → isTable (c .before .before .before .before .before .args .stores .now) ≡ true

@@ -1,4 +1,4 @@
--- `check_rule::check_names` meets its contract: the tests are 20, 21 and 22 in their order. Assumes nothing.
+-- `safety::check::check_names` meets its contract: the tests are 20, 21 and 22 in their order. Assumes nothing.
 use mathlib.Core.Path.{_≡_, _∙_}
 use mathlib.Core.List.{[]}
 use Prim.Native.Nat.{_≤_, _+_}
@@ -13,8 +13,8 @@ use Rattle.store_table.specs.Stores.{entriesIn, writeOnlyNames}
 use Rattle.evaluate.specs.Evict.{envOf, evict}
 use Rattle.verdict.specs.Check.{oldest, evictsUnconfirmed}
 use Rattle.verdict.proofs.Laws.CheckLaws.{refused-20, refused-21, refused-22, passed}
-use Rattle.check_rule.proofs.check_names.Statement.{statement}
-use Rattle.check_rule.proofs.check_names.Tie as tie
+use Rattle.safety.proofs.check.check_names.Statement.{statement}
+use Rattle.safety.proofs.check.check_names.Tie as tie
 
 -- what the rule says with nothing confirmed, and with just the write-only stores
 the-bare : (c : tie.After-evaluate) → (let s = c .before .before .before .before .before .before .before .before .before .before .before .args in (r : Rule) → size r ≡ s .n → EncodedAt r (cellAt (s .image .now) (s .n)) 0 → c .evaluate .result ≡ evictsUnconfirmed r (entriesIn (s .stores .now)))
