@@ -2720,6 +2720,8 @@ def pages():
     report(b"nas && 'vault", TWO, b'no 5 7', b'open quote: this quote is not closed', b"nas && 'vault", b'       ^')
     report(b'nas # vault', TWO, b'no 6 4', b'stray character: nothing in a rule begins with this character', b'nas # vault', b'    ^')
     report(b'readable(1 ', TWO, b'no 8 11', b'open bracket: a `)` is expected here', b'readable(1 ', b'          ^')
+    report(b'older_than(30d)\n  && readable(1\n', TWO[:1], b'no 8 32', b'open bracket: a `)` is expected here',
+           b'  && readable(1', b'               ^')
     report(b'nas && attic', TWO, b'no 20 1', b'unknown store: the rule names a store that is not in the table', b'attic')
     report(b'nas || older_than(1d)', TWO, b'no 21 0', b'unconfirmed: the rule says evict with nothing confirmed',
            b'confirmed: nothing', AGE)

@@ -1,23 +1,21 @@
-// Standard input, arguments and standard output of the programs.
+// Standard input and the arguments of the programs.
 ghost use Prim.Native.Nat.{_≤_, _+_};
 ghost use lib.ListN.{length};
 ghost use Rattle.console.specs.Inner.Input.{sizeOf};
 use libc::ENAMETOOLONG;
 use libc::STDIN_FILENO;
-use libc::STDOUT_FILENO;
-use page::PAGE_BYTES;
 
 // One byte more than a text may have, which is enough to detect a long one.
-const READ_BYTES: usize = 2049;
+pub const READ_BYTES: usize = 2049;
 
 // One byte more than an argument that gives a store may have, which is enough to detect a long one.
 const ARG_BYTES: usize = 267;
 
 // 65 arguments, which is enough to detect too many, each with a 0 after it.
-const ARGS_BYTES: usize = 17_420;
+pub const ARGS_BYTES: usize = 17_420;
 
 // What was read: how many bytes, or that a read failed.
-enum Input {
+pub enum Input {
     Bytes(usize),
     Failed,
 }
@@ -34,7 +32,7 @@ fn read_some(text: &mut [u8]) -> Input
 }
 
 // Reads from standard input until the text is full or the input ends.
-fn read_text(text: &mut [u8]) -> Input
+pub fn read_text(text: &mut [u8]) -> Input
     ensures { λ r. ⌜ sizeOf r ≤ length (now (text .exit)) ⌝ }
 {
     let mut done = 0;
@@ -49,18 +47,6 @@ fn read_text(text: &mut [u8]) -> Input
         done += more;
     }
     Input::Bytes(done)
-}
-
-// Reads a text from standard input, and prints a line that says what it reads as.
-pub fn ruleread() {
-    let mut text = [0u8; READ_BYTES];
-    let Input::Bytes(size) = read_text(&mut text) else {
-        os::fail(b"ruleread: standard input");
-        return;
-    };
-    let mut line = [0u8; 64];
-    let end = read_line::reading_line(&mut line, &text[..size]);
-    io::write_all(STDOUT_FILENO, &line[..end]);
 }
 
 // Writes argument i, or the first bytes of one that is too long, and a 0 after it, and answers where that ends.
@@ -78,7 +64,7 @@ fn collect_one(args: &mut [u8], at: usize, i: usize) -> usize
 }
 
 // Writes the program's arguments one after another, each with a 0 after it, and answers where the last ends.
-fn collect(args: &mut [u8]) -> usize
+pub fn collect(args: &mut [u8]) -> usize
     requires { ⌜ 17_420 ≤ length (now args) ⌝ }
     ensures { λ r. ⌜ r ≤ 17_420 ⌝ }
 {
@@ -93,18 +79,4 @@ fn collect(args: &mut [u8]) -> usize
         i += 1;
     }
     at
-}
-
-// Reads a text from standard input and stores from the arguments, and prints the verdict and what it means.
-pub fn rulejudge() {
-    let mut text = [0u8; READ_BYTES];
-    let Input::Bytes(size) = read_text(&mut text) else {
-        os::fail(b"rulejudge: standard input");
-        return;
-    };
-    let mut args = [0u8; ARGS_BYTES];
-    let end = collect(&mut args);
-    let mut page = [0u8; PAGE_BYTES];
-    let written = page::report(&text[..size], &args[..end], &mut page);
-    io::write_all(STDOUT_FILENO, &page[..written]);
 }

@@ -3,3 +3,4 @@ pub mod JoinLaws
 pub mod MeaningLaws
 pub mod MonotoneLaws
 pub mod SubtreeLaws
+pub mod SaidLaws

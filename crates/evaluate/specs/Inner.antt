@@ -1,1 +1,2 @@
 pub mod By
+pub mod Known

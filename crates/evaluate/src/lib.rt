@@ -1,4 +1,6 @@
 // What a rule says from its leaves' answers.
+pub mod leaves;
+
 ghost use mathlib.Core.Path.{_≡_};
 ghost use mathlib.Core.List.{List};
 ghost use mathlib.Core.Bool.{Bool};

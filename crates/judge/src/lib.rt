@@ -4,12 +4,12 @@ ghost use Prim.Native.Nat.{_+_, _*_, _≤_};
 ghost use lib.ListN.{length};
 ghost use Rattle.verdict.specs.Check.{judgeOf};
 ghost use Rattle.verdict.specs.Guarantee.{Judged};
-use check_rule::check_rule;
 use image::node_count;
 use read::IMAGE_BYTES;
 use read::Reading;
 use read::TEXT_BYTES;
 use read::read_fitting;
+use safety::check::check_rule;
 use verdict::Verdict;
 use verdict::refuse;
 

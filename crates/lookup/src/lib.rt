@@ -1,10 +1,12 @@
 // A name looked up in a table: by the table's index, or by a look at each entry.
+pub mod hash;
+
 ghost use mathlib.Core.Path.{_≡_};
 ghost use Prim.Native.Nat.{_≤_, _<_};
 ghost use Rattle.store_table.specs.Stores.{countIn, entriesIn};
 ghost use Rattle.store_table.specs.Inner.Bounds.{TableInBounds};
 ghost use Rattle.store_table.specs.Inner.Index.{Finds, hashOf, Indexed, IndexedAll};
-use name_hash::hash_of;
+use crate::hash::hash_of;
 use store_table::Found;
 use store_table::count_of;
 use store_table::length_at;

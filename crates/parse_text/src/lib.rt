@@ -4,9 +4,9 @@ ghost use Rattle.parse_text.specs.Inner.Parsing.{Ready, Ended, Finished}
 use nodes::ParseEnd;
 use nodes::refuse;
 use parser::parse_or;
-use scan::foreign_at;
-use scan::scan;
 use signs::place_of;
+use token_reader::scan::foreign_at;
+use token_reader::scan::scan;
 use token_reader::token_from;
 use tokens::Scanned;
 use tokens::Token;

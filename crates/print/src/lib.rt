@@ -4,7 +4,7 @@ ghost use Rattle.print.specs.Printed.{outcome, printInto};
 use image::node_count;
 use image_test::is_image;
 use print_put::put_rule;
-use print_size::text_size;
+use print_text::size::text_size;
 use refusals::Refusal;
 
 // What printing answers: the length of the text written, or a refusal.

@@ -9,7 +9,7 @@ ghost use Rattle.print_text.specs.Inner.Pieces.{leafIn, openingOf, behindOf, ba
 use decimal::digits::prepend_digits;
 use duration_text::format_duration;
 use image::name_of;
-use print_size::is_bracketed;
+use print_text::size::is_bracketed;
 use slices::prepend;
 
 // Writes a leaf's text so that it ends at a position, and answers where it begins; the functions below do so with other pieces.

@@ -1,1 +1,2 @@
-// The text of a rule: definitions and laws, no code.
+// The text of a rule: definitions, laws, and how many bytes it has.
+pub mod size;

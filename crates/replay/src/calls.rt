@@ -1,13 +1,13 @@
 // The calls that are lent no memory by their caller: `decide IMAGE STORES AGE LIST`, `check IMAGE STORES` and `judge TEXT STORES`; and
 // `report TEXT ARGUMENTS`, the page of `rulejudge`, each argument with a 0 after it. The age is in decimal and the rest in hex.
-use crate::answers::print_answer;
-use crate::answers::print_bytes;
-use crate::answers::print_fault;
-use crate::fields::SPACE;
-use crate::fields::bytes;
-use crate::fields::first;
-use crate::fields::front;
-use crate::fields::rest;
+use case_lines::answers::print_answer;
+use case_lines::answers::print_bytes;
+use case_lines::answers::print_fault;
+use case_lines::fields::SPACE;
+use case_lines::fields::bytes;
+use case_lines::fields::first;
+use case_lines::fields::front;
+use case_lines::fields::rest;
 use decimal::Parsed;
 use decimal::count::parse_count;
 use page::PAGE_BYTES;

@@ -1,11 +1,11 @@
 // The calls that are lent memory: `read TEXT BUFFER` and `print IMAGE BUFFER`, the text and the image in hex, and the length of the
 // lent buffer in decimal.
 ghost use Prim.Native.Nat.{_≤_};
-use crate::answers::REFUSED;
-use crate::answers::print_bytes;
-use crate::answers::print_fault;
-use crate::answers::print_refusal;
-use crate::fields::front;
+use case_lines::answers::REFUSED;
+use case_lines::answers::print_bytes;
+use case_lines::answers::print_fault;
+use case_lines::answers::print_refusal;
+use case_lines::fields::front;
 use decimal::Parsed;
 use decimal::count::parse_count;
 use libc::STDOUT_FILENO;

@@ -1,17 +1,15 @@
 // Runs a list of cases from standard input, one on a line, and prints the answer of each on a line, and how many there are.
 // Lines that are empty or begin with `#` are passed over. A case is the name of a call and what it is given: `lent` has the
 // calls `read` and `print`, and `calls` the calls `decide`, `check` and `judge`.
-mod answers;
 mod calls;
-mod fields;
 mod lent;
 
-use crate::answers::print_fault;
-use crate::fields::SPACE;
-use crate::fields::bytes;
-use crate::fields::first;
-use crate::fields::front;
-use crate::fields::rest;
+use case_lines::answers::print_fault;
+use case_lines::fields::SPACE;
+use case_lines::fields::bytes;
+use case_lines::fields::first;
+use case_lines::fields::front;
+use case_lines::fields::rest;
 use libc::STDIN_FILENO;
 use libc::STDOUT_FILENO;
 

@@ -1,8 +1,10 @@
 // The safety check of an image.
+pub mod check;
+
 ghost use mathlib.Core.Path.{_≡_};
 ghost use Rattle.verdict.specs.Check.{checkOf};
 ghost use Rattle.verdict.specs.Guarantee.{Checked};
-use check_rule::check_rule;
+use crate::check::check_rule;
 use image::node_count;
 use image_test::is_image;
 use verdict::Verdict;

@@ -6,7 +6,7 @@ ghost use Rattle.store_table.specs.Stores.{entriesIn, twinOf};
 ghost use Rattle.store_table.specs.Inner.Bounds.{TableInBounds};
 ghost use Rattle.store_table.specs.Inner.Index.{Blank, IndexedAll};
 use lookup::find_by;
-use name_hash::hash_of;
+use lookup::hash::hash_of;
 use store_table::Found;
 use store_table::Twin;
 use store_table::count_of;

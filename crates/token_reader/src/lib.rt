@@ -1,5 +1,7 @@
 // The word reader: a text and a position in it, kept together. Each function is thin: the work is done by those of
 // `tokens`, whose parameters are plain.
+pub mod scan;
+
 ghost use mathlib.Core.Path.{_≡_};
 ghost use Rattle.classes.specs.Inner.ClassTable.{IsClassTable};
 ghost use Rattle.tokens.specs.Token.{tokenAt};

@@ -1,4 +1,6 @@
 // What checking and judging answer, and the guarantee: definitions and types.
+pub mod grades;
+
 ghost use mathlib.Core.Path.{_≡_};
 use refusals::Refusal;
 
