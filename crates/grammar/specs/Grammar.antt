@@ -38,14 +38,10 @@ pub data Rest : Type 0 where
   rest : List Token → Rest
   missing : Rest
 
-abbrev pub restIf : Bool → List Token → Rest
-restIf true ts = rest ts
-restIf false ts = missing
-
 -- where the next one is of this kind
 unfoldable pub after : ℕ → List Token → Rest
 after k [] = missing
-after k (t ∷ ts) = restIf (eqb (tokenKind t) k) ts
+after k (t ∷ ts) = cond (eqb (tokenKind t) k) (rest ts) missing
 
 -- "the first byte of the token found, or the text length if none"
 unfoldable pub firstPlace : List Token → ℕ

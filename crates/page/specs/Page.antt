@@ -26,9 +26,6 @@ faultText ForeignName = bytes "a name has a byte that is not ASCII"
 abbrev pub argumentLine : ℕ → Fault → List ℕ
 argumentLine i f = bytes "argument " ++ (digitsOf i ++ (bytes ": " ++ (faultText f ++ lineEnd)))
 
-abbrev pub tooMany : List ℕ
-tooMany = bytes "more than 64 stores are given" ++ lineEnd
-
 -- ---- all of it
 
 -- the verdict on a text for some stores, and what it means
@@ -43,7 +40,7 @@ reportBy text (stores es) = judgedText text es
 -- of a rule's text, and of arguments one after the other, each with a 0 after it
 unfoldable pub reportOf : List ℕ → List ℕ → List ℕ
 unfolding split storesIn judgedText
-reportOf text args = cond (ltb 64 (length (split args))) tooMany (reportBy text (storesIn args))
+reportOf text args = cond (ltb 64 (length (split args))) (bytes "more than 64 stores are given" ++ lineEnd) (reportBy text (storesIn args))
 
 -- written to the front of a page; nothing where the page has less than 32,768 bytes
 abbrev pub pageOf : List ℕ → List ℕ → List ℕ → List ℕ

@@ -1,6 +1,6 @@
 -- The place of a text's refusal is a position in the text, or its end. Assumes nothing.
 use mathlib.Core.Path.{_≡_}
-use mathlib.Core.Bool.{Bool, true, false}
+use mathlib.Core.Bool.{Bool, true, false, cond}
 use mathlib.Core.List.{List, [], _∷_}
 use Prim.Native.Nat.{ℕ, zero, suc, _+_, _-_, _*_, _≤_}
 use native.Mathlib.Omega.{arith}
@@ -24,7 +24,7 @@ use Rattle.rules.specs.Rule.{Join, all, any, Rule, Rules, nil, more}
 use Rattle.grammar.specs.declared.Function.{Function}
 use Rattle.grammar.specs.declared.Function.the-variants.{OlderThan, Readable, Any, All, AtLeast, Unknown}
 use Rattle.grammar.specs.Grammar as grammar
-use Rattle.grammar.specs.Grammar.{tokenKind, Rest, rest, missing, restIf, after, firstPlace, PrimaryStart, aLeaf, aGroup, aList, expecting, expectedWord, requireWord, valued, olderThanStart, readableStart, atLeastStart, functionOf, callStart, opened, unquotedStart, wordStart, primaryStart, ParseResult, got, bad, onto, onRest, closeAfter, byStart, orIn, orMore, andIn, andMore, primaryIn, listMore}
+use Rattle.grammar.specs.Grammar.{tokenKind, Rest, rest, missing, after, firstPlace, PrimaryStart, aLeaf, aGroup, aList, expecting, expectedWord, requireWord, valued, olderThanStart, readableStart, atLeastStart, functionOf, callStart, opened, unquotedStart, wordStart, primaryStart, ParseResult, got, bad, onto, onRest, closeAfter, byStart, orIn, orMore, andIn, andMore, primaryIn, listMore}
 use Rattle.refusals.specs.Refusals.{bracketExpected, missingArgument}
 use Rattle.classes.specs.Class.{openBracket, closeBracket, comma, ampersand, bar}
 use Rattle.grammar.specs.Reading.{Read, rule, refused, atEnd, ended, parseOf, scannedOf, readOf}
@@ -54,7 +54,7 @@ module _ (m : ℕ) where
   after-placed k [] h = tt
   after-placed k (t ∷ ts) h = go (eqb (tokenKind t) k)
     where
-      go : (b : Bool) → RestPlaced m (restIf b ts)
+      go : (b : Bool) → RestPlaced m (cond b (rest ts) missing)
       go true = h .1
       go false = tt
 

@@ -23,7 +23,7 @@ use Rattle.rules.specs.Rule.{named, readable, Join, atLeast, all, any, Rule, le
 use Rattle.image.specs.Encode.{leafArg, leafName, joinKind, joinArg, names, namesAll, Small, SmallAll}
 use Rattle.grammar.specs.declared.Function.{Function}
 use Rattle.grammar.specs.declared.Function.the-variants.{OlderThan, Readable, Any, All, AtLeast, Unknown}
-use Rattle.grammar.specs.Grammar.{tokenKind, Rest, rest, missing, restIf, after, firstPlace, PrimaryStart, aLeaf, aGroup, aList, refused, refuse, expecting, expectedWord, requireWord, valued, olderThanStart, readableStart, atLeastStart, functionOf, callStart, unquotedLeaf, opened, unquotedStart, primaryStart, chain, leftRules, ParseResult, got, bad, onto, onRest, closeAfter, byStart, orIn, orMore, andIn, andMore, primaryIn, listMore}
+use Rattle.grammar.specs.Grammar.{tokenKind, Rest, rest, missing, after, firstPlace, PrimaryStart, aLeaf, aGroup, aList, refused, refuse, expecting, expectedWord, requireWord, valued, olderThanStart, readableStart, atLeastStart, functionOf, callStart, unquotedLeaf, opened, unquotedStart, primaryStart, chain, leftRules, ParseResult, got, bad, onto, onRest, closeAfter, byStart, orIn, orMore, andIn, andMore, primaryIn, listMore}
 use Rattle.classes.specs.Class.{openBracket, closeBracket, comma, ampersand, bar}
 use Rattle.slices.proofs.Laws.AsciiLaws.{append-ascii}
 use Rattle.grammar.proofs.Laws.AsciiLaws.{part-ascii}
@@ -76,7 +76,7 @@ unfolding after
 after-taken k [] {us} l e = let z : _≡_ {A = ℕ} 0 1 = cc in absurd (omega arith)
 after-taken k (t ∷ ts) {us} l e = go (eqb (tokenKind t) k) refl e
   where
-    go : (v : Bool) → eqb (tokenKind t) k ≡ v → restIf v ts ≡ rest us → Taken (t ∷ ts) us 1 0
+    go : (v : Bool) → eqb (tokenKind t) k ≡ v → cond v (rest ts) missing ≡ rest us → Taken (t ∷ ts) us 1 0
     go true q i = let j : us ≡ ts = cc in rw j (omega (arith, eqb-true (tokenKind t) k q))
     go false q i = let z : _≡_ {A = ℕ} 0 1 = cc in absurd (omega arith)
 

@@ -1,10 +1,12 @@
 -- Laws of the page: which of its cases applies, and the table that arguments make. Assumes nothing.
 use mathlib.Core.Path.{_≡_}
-use mathlib.Core.List.{List, []}
+use mathlib.Core.List.{List, [], _++_}
 use Prim.Native.Nat.{ℕ, _≤_, _<_}
 use native.Mathlib.Omega.{arith}
 use borrow.Author.Tests.{lt-ltb, le-ltb}
 use lib.ListN.{length, take}
+use Rattle.slices.specs.Text.{bytes}
+use Rattle.lines.specs.Lines.{lineEnd}
 use Rattle.store_table.specs.Stores.{Entry, entriesIn}
 use Rattle.store_table.specs.Inner.Bounds.{TableInBounds}
 use Rattle.store_table.specs.TableBytes.{tableOf}
@@ -19,7 +21,7 @@ use Rattle.store_args.specs.declared.Made.the-variants.{Table}
 use Rattle.store_args.specs.Arguments.{stores, wrongAt, split, storesIn}
 use Rattle.store_args.proofs.Laws.ArgumentsLaws.{stores-fit, stores-many}
 use Rattle.store_args.specs.Inner.Filling.{MadeOf}
-use Rattle.page.specs.Page.{faultText, argumentLine, tooMany, judgedText, reportOf, pageOf}
+use Rattle.page.specs.Page.{faultText, argumentLine, judgedText, reportOf, pageOf}
 
 pub fault-short : (f : Fault) → length (faultText f) ≤ 64
 fault-short NoColon = omega arith
@@ -58,7 +60,7 @@ module _ (text args page : List ℕ) where
   page-short h = rw (lt-ltb (length page) 32_768 h)
 
   module _ (room : 32_768 ≤ length page) where
-    pub page-many : 64 < length (split args) → tooMany ≡ pageOf text args page
+    pub page-many : 64 < length (split args) → bytes "more than 64 stores are given" ++ lineEnd ≡ pageOf text args page
     unfolding reportOf
     page-many h = rw (le-ltb (length page) 32_768 room, lt-ltb 64 (length (split args)) h)
 
