@@ -12,29 +12,29 @@ use Rattle.print.specs.declared.Printing.{Printing}
 use Rattle.print.specs.declared.Printing.the-variants.{Printed, Refused as Unprinted}
 
 -- a number and a value as one; the values of the calls are below 2^32, so that both are read back (AnswersLaws)
-abbrev pub packed : ℕ → ℕ → ℕ
-packed number value = number * 2 ^ 32 + value % 2 ^ 32
+abbrev pub packedAnswer : ℕ → ℕ → ℕ
+packedAnswer number value = number * 2 ^ 32 + value % 2 ^ 32
 
 abbrev pub ofRefusal : Refusal → ℕ
-ofRefusal f = packed (f .number) (f .place)
+ofRefusal f = packedAnswer (f .number) (f .place)
 
 -- "the length written"
 abbrev pub ofReading : Reading → ℕ
-ofReading (Read size) = packed 0 size
+ofReading (Read size) = packedAnswer 0 size
 ofReading (Unread f) = ofRefusal f
 
 -- "1 evict, 0 keep"
 abbrev pub ofDecision : Decision → ℕ
-ofDecision Evict = packed 0 1
-ofDecision Keep = packed 0 0
+ofDecision Evict = packedAnswer 0 1
+ofDecision Keep = packedAnswer 0 0
 ofDecision (Undecided f) = ofRefusal f
 
 -- "0 for pass"
 abbrev pub ofVerdict : Verdict → ℕ
-ofVerdict Pass = packed 0 0
+ofVerdict Pass = packedAnswer 0 0
 ofVerdict (NotPassed f) = ofRefusal f
 
 -- "the length written"
 abbrev pub ofPrinting : Printing → ℕ
-ofPrinting (Printed size) = packed 0 size
+ofPrinting (Printed size) = packedAnswer 0 size
 ofPrinting (Unprinted f) = ofRefusal f

@@ -1,7 +1,7 @@
 // The table of the stores that arguments give.
 ghost use Prim.Native.Nat.{_+_, _≤_, _<_};
 ghost use lib.ListN.{length};
-ghost use Rattle.store_args.specs.Arguments.{givenBy, split, storesIn};
+ghost use Rattle.store_args.specs.Arguments.{givenBy, argumentsIn, storesIn};
 ghost use Rattle.store_args.specs.Inner.Filling.{arrays, OneOf, FilledBy, MadeOf};
 use little_endian::write_u16;
 use slices::append;
@@ -40,7 +40,7 @@ fn fill_one(
 
 // Writes the modes, the lengths of the names and the names of at most 64 stores.
 fn fill(args: &[u8], modes: &mut [u8], lengths: &mut [u8], names: &mut [u8]) -> Filled
-    requires { ⌜ (length (split (now args)) ≤ 64) × ((64 ≤ length (now modes)) × ((64 ≤ length (now lengths)) × (16_320 ≤ length (now names)))) ⌝ }
+    requires { ⌜ (length (argumentsIn (now args)) ≤ 64) × ((64 ≤ length (now modes)) × ((64 ≤ length (now lengths)) × (16_320 ≤ length (now names)))) ⌝ }
     ensures { λ r. ⌜ FilledBy (storesIn (now (args .entry))) (arrays (now (modes .exit)) (now (lengths .exit)) (now (names .exit))) r ⌝ }
 {
     let mut k = 0;
@@ -67,7 +67,7 @@ fn fill(args: &[u8], modes: &mut [u8], lengths: &mut [u8], names: &mut [u8]) -> 
 
 // Makes the table of the stores that the arguments give, at most 64 of them.
 pub fn table_of(args: &[u8], table: &mut [u8]) -> Made
-    requires { ⌜ (length (split (now args)) ≤ 64) × (16_452 ≤ length (now table)) ⌝ }
+    requires { ⌜ (length (argumentsIn (now args)) ≤ 64) × (16_452 ≤ length (now table)) ⌝ }
     ensures { λ r. ⌜ MadeOf (storesIn (now (args .entry))) (now (table .exit)) r ⌝ }
 {
     let mut modes = [0u8; 64];

@@ -8,7 +8,7 @@ use Rattle.rules.specs.Rule.{Rule}
 use Rattle.image.specs.Decode.{decode}
 use Rattle.store_table.specs.Stores.{entriesIn, allNames}
 use Rattle.evaluate.specs.Evict.{envOf, evict}
-use Rattle.decide.specs.Tests.{unlessDue, tableTest, twinTest, listTest}
+use Rattle.decide.specs.Tests.{firstRefusal, tableTest, twinTest, listTest}
 use Rattle.decide.specs.declared.Decision.{Decision}
 use Rattle.decide.specs.declared.Decision.the-variants.{Evict, Keep, Refused}
 
@@ -24,7 +24,7 @@ listNames l = allNames (entriesIn l)
 abbrev pub decideRule : Option Rule → List ℕ → ℕ → List ℕ → Decision
 decideRule none stores age list = Refused (refusal badImage 0)
 decideRule (some r) stores age list =
-    unlessDue Refused (tableTest stores ∷ twinTest stores ∷ listTest list ∷ [])
+    firstRefusal Refused (tableTest stores ∷ twinTest stores ∷ listTest list ∷ [])
     (decisionOf (evict r (envOf (entriesIn stores) age (listNames list))))
 
 unfoldable pub decideOf : List ℕ → List ℕ → ℕ → List ℕ → Decision

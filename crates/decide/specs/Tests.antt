@@ -10,10 +10,10 @@ use Rattle.store_table.specs.declared.Twin.{Twin}
 use Rattle.store_table.specs.declared.Twin.the-variants.{No, At}
 
 -- the first refusal of these tests, from left to right, or else the answer
-abbrev pub unlessDue {ℓ} : {A : Type ℓ} → (Refusal → A) → List (Option Refusal) → A → A
-unlessDue refuse [] answer = answer
-unlessDue refuse (none ∷ tests) answer = unlessDue refuse tests answer
-unlessDue refuse (some f ∷ tests) answer = refuse f
+abbrev pub firstRefusal {ℓ} : {A : Type ℓ} → (Refusal → A) → List (Option Refusal) → A → A
+firstRefusal refuse [] answer = answer
+firstRefusal refuse (none ∷ tests) answer = firstRefusal refuse tests answer
+firstRefusal refuse (some f ∷ tests) answer = refuse f
 
 -- 17, "bad store table"
 abbrev pub tableTest : List ℕ → Option Refusal

@@ -4,10 +4,10 @@ ghost use Prim.Native.Nat.{_≤_};
 ghost use Rattle.rules.specs.Rule.{Rule};
 ghost use Rattle.rules.specs.Rule.{size as sizeOf};
 ghost use Rattle.image.specs.Decode.{cellAt};
-ghost use Rattle.image.specs.Inner.Standing.{EncodedAt};
+ghost use Rattle.image.specs.Inner.EncodedAt.{EncodedAt};
 ghost use Rattle.image.specs.Inner.Subtree.{ValidSubtree};
 ghost use Rattle.evaluate.specs.Evict.{evict};
-ghost use Rattle.evaluate.specs.Inner.Known.{Known, envIn};
+ghost use Rattle.evaluate.specs.Inner.Known.{Prepared, envIn};
 ghost use Rattle.decide.specs.Decide.{decideOf};
 use confirmed::mark_confirmed;
 use confirmed::ready_count;
@@ -46,7 +46,7 @@ fn rule_says_64(
     slots: &[u8; 512],
     marks: &[u8; 64],
 ) -> bool
-    requires { ⌜ ValidSubtree (now image) n 0 n × ((n ≤ 64) × Known (now stores) (now list) (now starts) (now slots) (now marks)) ⌝ }
+    requires { ⌜ ValidSubtree (now image) n 0 n × ((n ≤ 64) × Prepared (now stores) (now list) (now starts) (now slots) (now marks)) ⌝ }
     ensures { λ r. ⌜ ((ρ : Rule) → sizeOf ρ ≡ n → EncodedAt ρ (cellAt (now (image .entry)) n) 0 → r ≡ evict ρ (envIn (now (list .entry)) view)) ⌝ }
 {
     let mut says = [0u8; 64];
@@ -75,7 +75,7 @@ fn rule_says_2048(
     slots: &[u8; 512],
     marks: &[u8; 64],
 ) -> bool
-    requires { ⌜ ValidSubtree (now image) n 0 n × ((n ≤ 2048) × Known (now stores) (now list) (now starts) (now slots) (now marks)) ⌝ }
+    requires { ⌜ ValidSubtree (now image) n 0 n × ((n ≤ 2048) × Prepared (now stores) (now list) (now starts) (now slots) (now marks)) ⌝ }
     ensures { λ r. ⌜ ((ρ : Rule) → sizeOf ρ ≡ n → EncodedAt ρ (cellAt (now (image .entry)) n) 0 → r ≡ evict ρ (envIn (now (list .entry)) view)) ⌝ }
 {
     let mut says = [0u8; 2048];
@@ -104,7 +104,7 @@ fn rule_says(
     slots: &[u8; 512],
     marks: &[u8; 64],
 ) -> bool
-    requires { ⌜ ValidSubtree (now image) n 0 n × ((n ≤ 2048) × Known (now stores) (now list) (now starts) (now slots) (now marks)) ⌝ }
+    requires { ⌜ ValidSubtree (now image) n 0 n × ((n ≤ 2048) × Prepared (now stores) (now list) (now starts) (now slots) (now marks)) ⌝ }
     ensures { λ r. ⌜ ((ρ : Rule) → sizeOf ρ ≡ n → EncodedAt ρ (cellAt (now (image .entry)) n) 0 → r ≡ evict ρ (envIn (now (list .entry)) view)) ⌝ }
 {
     if n <= 64 {

@@ -1,5 +1,5 @@
 pub mod NodeNameLaws
-pub mod DueLaws
+pub mod RefusalBoundsLaws
 pub mod PassLaws
 pub mod ReportLaws
 pub mod ShortLaws

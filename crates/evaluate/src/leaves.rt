@@ -7,7 +7,7 @@ ghost use Rattle.image.specs.Kinds.{namedKind};
 ghost use Rattle.image.specs.Decode.{aLeaf, meaning};
 ghost use Rattle.image.specs.Inner.Subtree.{ValidSubtree, NameInside};
 ghost use Rattle.evaluate.specs.Evict.{leafSays};
-ghost use Rattle.evaluate.specs.Inner.Known.{Known, envIn, Said};
+ghost use Rattle.evaluate.specs.Inner.Known.{Prepared, envIn, Said};
 use confirmed::is_confirmed;
 use image::is_leaf;
 use image::name_of;
@@ -32,7 +32,7 @@ fn leaf_says(
     slots: &[u8; 512],
     marks: &[u8; 64],
 ) -> bool
-    requires { ⌜ (kind ≡ namedKind → NameInside (now image) n arg) × Known (now stores) (now list) (now starts) (now slots) (now marks) ⌝ }
+    requires { ⌜ (kind ≡ namedKind → NameInside (now image) n arg) × Prepared (now stores) (now list) (now starts) (now slots) (now marks) ⌝ }
     ensures { λ r. ⌜ ((l : Leaf) → meaning (now (image .entry)) n kind arg ≡ aLeaf l → r ≡ leafSays l (envIn (now (list .entry)) view)) ⌝ }
 {
     match kind {
@@ -55,7 +55,7 @@ pub fn say_leaves(
     marks: &[u8; 64],
     says: &mut [u8],
 )
-    requires { ⌜ ValidSubtree (now image) n 0 n × ((n ≤ length (now says)) × Known (now stores) (now list) (now starts) (now slots) (now marks)) ⌝ }
+    requires { ⌜ ValidSubtree (now image) n 0 n × ((n ≤ length (now says)) × Prepared (now stores) (now list) (now starts) (now slots) (now marks)) ⌝ }
     ensures { λ _. ⌜ Said (now (image .entry)) n (now (says .exit)) 1 (envIn (now (list .entry)) view) ⌝ }
 {
     let mut i = 0;

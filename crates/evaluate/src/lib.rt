@@ -9,8 +9,8 @@ ghost use lib.ListN.{length};
 ghost use Rattle.rules.specs.Rule.{Join, Rule};
 ghost use Rattle.rules.specs.Rule.{size as sizeOf};
 ghost use Rattle.image.specs.Decode.{aJoin, meaning, cellAt};
-ghost use Rattle.image.specs.Inner.Standing.{EncodedAt};
-ghost use Rattle.image.specs.Inner.Subtree.{Row};
+ghost use Rattle.image.specs.Inner.EncodedAt.{EncodedAt};
+ghost use Rattle.image.specs.Inner.Subtree.{NodeRow};
 ghost use Rattle.evaluate.specs.Evict.{joinSays, countTrue};
 ghost use Rattle.evaluate.specs.Inner.By.{evictBy, saysAt};
 use image::node_at;
@@ -30,7 +30,7 @@ fn join_says(kind: u32, arg: u64, yes: u64, total: u64) -> bool
 // What the rule says whose nodes are the `size` from `from` on, where a leaf says evict if its number is at least `least`. The
 // size falls at each call, and leaves need none.
 pub fn evaluate(image: &[u8], n: usize, from: usize, size: usize, says: &[u8], least: u8) -> bool
-    requires { ⌜ Row (now image) n from size × (n ≤ length (now says)) ⌝ }
+    requires { ⌜ NodeRow (now image) n from size × (n ≤ length (now says)) ⌝ }
     ensures { λ r. ⌜ ((ρ : Rule) → sizeOf ρ ≡ size → EncodedAt ρ (cellAt (now (image .entry)) n) from → r ≡ evictBy (saysAt (now (says .entry)) least) ρ from) ⌝ }
 {
     let at = from + size - 1;

@@ -1,6 +1,6 @@
 pub mod PlaceLaws
 pub mod AsciiLaws
-pub mod BehindLaws
+pub mod SignTestLaws
 pub mod CleanLaws
 pub mod FitsLaws
 pub mod GrammarLaws

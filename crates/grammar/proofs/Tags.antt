@@ -14,7 +14,7 @@ use Rattle.tokens.specs.declared.Token.{Token}
 use Rattle.tokens.specs.declared.Token.the-variants.{End, Open, Close, Comma, And, Or, Word, Fault}
 use Rattle.grammar.specs.Grammar.{tokenKind, missing, after, otherToken, expectedWord, refuse, primaryStart}
 use Rattle.classes.specs.Class.{openBracket, comma, closeBracket}
-use Rattle.grammar.proofs.Laws.TokenListLaws.{after-off, word-undue}
+use Rattle.grammar.proofs.Laws.TokenListLaws.{after-off, word-missing}
 use Rattle.grammar.proofs.Laws.StartLaws.{head-none}
 
 tag-kind : (t : Token) → tagOf the-type t ≡ tokenKind t
@@ -42,7 +42,7 @@ not-kind ks k h t o e = miss ks k h (subst (OneOf ks) (tag-kind t ∙ e) o)
 -- the token at a position is no word, is not this sign, is neither a comma nor a closing bracket, begins no primary
 module _ (s : List ℕ) (at : ℕ) {t : Token} (e : t ≡ tokenAt s at) where
   pub no-word : OneOf (others 6) (tagOf the-type t) → expectedWord s (tokensFrom s at) ≡ otherToken (placeOf t)
-  no-word o = word-undue s at (sym e) (not-kind (others 6) 6 tt t o)
+  no-word o = word-missing s at (sym e) (not-kind (others 6) 6 tt t o)
 
   pub no-sign : (k : ℕ) → T (not (hasKey (others k) k)) → OneOf (others k) (tagOf the-type t) → after k (tokensFrom s at) ≡ missing
   no-sign k h o = after-off s at (sym e) k (not-kind (others k) k h t o)

@@ -5,7 +5,7 @@ pub mod EncodeLaws
 pub mod FitLaws
 pub mod NameRunLaws
 pub mod RoundTripLaws
-pub mod StandingLaws
+pub mod EncodedAtLaws
 pub mod TestLaws
 pub mod InsideLaws
 pub mod CellLaws

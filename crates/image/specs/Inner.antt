@@ -1,4 +1,4 @@
 pub mod Leaves
-pub mod Standing
+pub mod EncodedAt
 pub mod Valid
 pub mod Subtree

@@ -5,7 +5,7 @@ ghost use lib.ListN.{length};
 ghost use Rattle.slices.specs.Text.{written};
 ghost use Rattle.little_endian.specs.Bytes.{leAt, leBytes};
 
-fn wide(x: u8) -> u64
+fn to_u64(x: u8) -> u64
     ensures { λ r. ⌜ (r ≡ x) × (r < 256) ⌝ }
 {
     x as u64
@@ -16,7 +16,7 @@ pub fn read_u16(s: &[u8], at: usize) -> u64
     requires { ⌜ at + 2 ≤ length (now s) ⌝ }
     ensures { λ r. ⌜ (r ≡ leAt (now (s .entry)) at 2) × (r < 2 ^ 16) ⌝ }
 {
-    wide(s[at]) + 256 * wide(s[at + 1])
+    to_u64(s[at]) + 256 * to_u64(s[at + 1])
 }
 
 // The number that four bytes make.

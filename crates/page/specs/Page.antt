@@ -13,7 +13,7 @@ use Rattle.verdict.specs.Check.{judgeOf}
 use Rattle.details.specs.Report.{detail, verdictText}
 use Rattle.store_args.specs.declared.Fault.{Fault}
 use Rattle.store_args.specs.declared.Fault.the-variants.{NoColon, NoMode, LongName, ForeignName}
-use Rattle.store_args.specs.Arguments.{Stores, stores, wrongAt, split, storesIn}
+use Rattle.store_args.specs.Arguments.{Stores, stores, wrongAt, argumentsIn, storesIn}
 
 -- ---- bad arguments
 
@@ -39,8 +39,8 @@ reportBy text (stores es) = judgedText text es
 
 -- of a rule's text, and of arguments one after the other, each with a 0 after it
 unfoldable pub reportOf : List ℕ → List ℕ → List ℕ
-unfolding split storesIn judgedText
-reportOf text args = cond (ltb 64 (length (split args))) (bytes "more than 64 stores are given" ++ lineEnd) (reportBy text (storesIn args))
+unfolding argumentsIn storesIn judgedText
+reportOf text args = cond (ltb 64 (length (argumentsIn args))) (bytes "more than 64 stores are given" ++ lineEnd) (reportBy text (storesIn args))
 
 -- written to the front of a page; nothing where the page has less than 32,768 bytes
 abbrev pub pageOf : List ℕ → List ℕ → List ℕ → List ℕ

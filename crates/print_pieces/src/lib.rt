@@ -5,7 +5,7 @@ ghost use lib.ListN.{length};
 ghost use Rattle.slices.specs.Text.{WrittenAt};
 ghost use Rattle.image.specs.Kinds.{namedKind};
 ghost use Rattle.image.specs.Inner.Subtree.{NameInside};
-ghost use Rattle.print_text.specs.Inner.Pieces.{leafIn, openingOf, behindOf, backOf, frontOf};
+ghost use Rattle.print_text.specs.Inner.Pieces.{leafIn, openingOf, afterChildOf, backOf, frontOf};
 use decimal::digits::prepend_digits;
 use duration_text::format_duration;
 use image::name_of;
@@ -57,8 +57,8 @@ pub fn prepend_opening(kind: u32, arg: u64, text: &mut [u8], end: usize) -> usiz
 
 // What comes after a child, the last one or an earlier one.
 fn prepend_after(kind: u32, last: bool, text: &mut [u8], end: usize) -> usize
-    requires { ⌜ (length (behindOf kind last) ≤ end) × (end ≤ length (now text)) ⌝ }
-    ensures { λ r. ⌜ WrittenAt (now (text .entry)) (now (text .exit)) r end (behindOf kind last) ⌝ }
+    requires { ⌜ (length (afterChildOf kind last) ≤ end) × (end ≤ length (now text)) ⌝ }
+    ensures { λ r. ⌜ WrittenAt (now (text .entry)) (now (text .exit)) r end (afterChildOf kind last) ⌝ }
 {
     if last {
         match kind {

@@ -6,7 +6,7 @@ ghost use Rattle.slices.specs.Text.{WrittenAt};
 ghost use Rattle.rules.specs.Rule.{Rule};
 ghost use Rattle.rules.specs.Rule.{size as sizeOf};
 ghost use Rattle.image.specs.Decode.{cellAt};
-ghost use Rattle.image.specs.Inner.Standing.{EncodedAt};
+ghost use Rattle.image.specs.Inner.EncodedAt.{EncodedAt};
 ghost use Rattle.image.specs.Inner.Subtree.{ValidSubtree};
 ghost use Rattle.print_text.specs.Print.{textOf};
 use image::is_leaf;

@@ -20,13 +20,13 @@ opening all = []
 opening any = []
 
 -- "all joined by ` && `, any by ` || `": what comes between two of them, and after the last
-unfoldable pub behind : Join → Bool → List ℕ
-behind (atLeast k) false = bytes ", "
-behind all false = bytes " && "
-behind any false = bytes " || "
-behind (atLeast k) true = bytes ")"
-behind all true = []
-behind any true = []
+unfoldable pub afterChild : Join → Bool → List ℕ
+afterChild (atLeast k) false = bytes ", "
+afterChild all false = bytes " && "
+afterChild any false = bytes " || "
+afterChild (atLeast k) true = bytes ")"
+afterChild all true = []
+afterChild any true = []
 
 -- "brackets only round an any directly under an all"
 abbrev pub isAny : Rule → Bool
@@ -46,8 +46,8 @@ bracket b sign = cond b sign []
 
 -- a child of text t, and what comes after it, by whether it is the last child
 unfoldable pub childText : Join → Rule → List ℕ → Bool → List ℕ
-unfolding behind bracketed bracket
-childText j r t last = bracket (bracketed j r) (bytes "(") ++ (t ++ (bracket (bracketed j r) (bytes ")") ++ behind j last))
+unfolding afterChild bracketed bracket
+childText j r t last = bracket (bracketed j r) (bytes "(") ++ (t ++ (bracket (bracketed j r) (bytes ")") ++ afterChild j last))
 
 unfoldable mutual
   unfolding leafText opening childText

@@ -6,9 +6,9 @@ ghost use Rattle.rules.specs.Rule.{Rule};
 ghost use Rattle.rules.specs.Rule.{size as sizeOf};
 ghost use Rattle.image.specs.Kinds.{namedKind};
 ghost use Rattle.image.specs.Decode.{cellAt};
-ghost use Rattle.image.specs.Inner.Standing.{EncodedAt};
+ghost use Rattle.image.specs.Inner.EncodedAt.{EncodedAt};
 ghost use Rattle.image.specs.Inner.Subtree.{ValidSubtree, NameInside};
-ghost use Rattle.print_text.specs.Inner.Pieces.{bracketedOf, leafIn, openingOf, behindOf, frontOf, backOf};
+ghost use Rattle.print_text.specs.Inner.Pieces.{bracketedOf, leafIn, openingOf, afterChildOf, frontOf, backOf};
 ghost use Rattle.print_text.specs.Print.{textOf};
 use decimal::digits::digit_count;
 use duration_text::duration_size;
@@ -47,8 +47,8 @@ fn opening_size(kind: u32, arg: u64) -> usize
 }
 
 // The bytes after a child, the last one or an earlier one.
-fn behind_size(kind: u32, last: bool) -> usize
-    ensures { λ r. ⌜ r ≡ length (behindOf kind last) ⌝ }
+fn after_size(kind: u32, last: bool) -> usize
+    ensures { λ r. ⌜ r ≡ length (afterChildOf kind last) ⌝ }
 {
     if last {
         match kind {
@@ -70,9 +70,9 @@ fn around_size(kind: u32, child: u32, last: bool) -> usize
     ensures { λ r. ⌜ r ≡ length (frontOf kind child) + length (backOf kind child last) ⌝ }
 {
     if is_bracketed(kind, child) {
-        return 2 + behind_size(kind, last);
+        return 2 + after_size(kind, last);
     }
-    behind_size(kind, last)
+    after_size(kind, last)
 }
 
 // The bytes of the rule whose nodes are the `size` from `from` on: the size falls at each call.

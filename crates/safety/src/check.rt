@@ -5,7 +5,7 @@ ghost use lib.ListN.{length};
 ghost use Rattle.rules.specs.Rule.{Rule};
 ghost use Rattle.rules.specs.Rule.{size as sizeOf};
 ghost use Rattle.image.specs.Decode.{cellAt};
-ghost use Rattle.image.specs.Inner.Standing.{EncodedAt};
+ghost use Rattle.image.specs.Inner.EncodedAt.{EncodedAt};
 ghost use Rattle.image.specs.Inner.Subtree.{ValidSubtree};
 ghost use Rattle.store_table.specs.Inner.Index.{IndexedAll};
 ghost use Rattle.verdict.specs.Check.{checkRule};

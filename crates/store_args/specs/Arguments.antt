@@ -16,9 +16,9 @@ abbrev onto : ℕ → List (List ℕ) → List (List ℕ)
 onto b [] = (b ∷ []) ∷ []
 onto b (w ∷ ws) = (b ∷ w) ∷ ws
 
-unfoldable pub split : List ℕ → List (List ℕ)
-split [] = []
-split (b ∷ s) = let ws = split s in cond (eqb b 0) ([] ∷ ws) (onto b ws)
+unfoldable pub argumentsIn : List ℕ → List (List ℕ)
+argumentsIn [] = []
+argumentsIn (b ∷ s) = let ws = argumentsIn s in cond (eqb b 0) ([] ∷ ws) (onto b ws)
 
 -- a store, or what is wrong with an argument
 pub data Given : Type 0 where
@@ -40,8 +40,8 @@ modeTested word name =
     (cond (equal word (bytes "write-only")) (named writeOnly name) (wrong NoMode)))
 
 -- after the last colon of an argument, or 0 where there is none
-abbrev pub behindColon : List ℕ → ℕ
-behindColon w = endOfLast (within (code ":") (code ":")) w (length w)
+abbrev pub afterColon : List ℕ → ℕ
+afterColon w = endOfLast (within (code ":") (code ":")) w (length w)
 
 unfoldable pub colonTested : List ℕ → ℕ → Given
 unfolding modeTested
@@ -50,7 +50,7 @@ colonTested w c = cond (eqb c 0) (wrong NoColon) (modeTested (drop c w) (take (c
 -- the store that an argument gives; one with a name of 255 bytes has at most 266
 unfoldable pub givenBy : List ℕ → Given
 unfolding colonTested
-givenBy w = cond (ltb 266 (length w)) (wrong LongName) (colonTested w (behindColon w))
+givenBy w = cond (ltb 266 (length w)) (wrong LongName) (colonTested w (afterColon w))
 
 -- all stores, or the first argument that is wrong, counted from 1, and what is wrong with it
 pub data Stores : Type 0 where
@@ -68,5 +68,5 @@ storesFrom i [] = stores []
 storesFrom i (w ∷ ws) = before (givenBy w) i (storesFrom (suc i) ws)
 
 unfoldable pub storesIn : List ℕ → Stores
-unfolding split storesFrom
-storesIn args = storesFrom 1 (split args)
+unfolding argumentsIn storesFrom
+storesIn args = storesFrom 1 (argumentsIn args)

@@ -2,7 +2,7 @@
 ghost use mathlib.Core.Path.{_≡_};
 ghost use Prim.Native.Nat.{_≤_};
 ghost use lib.ListN.{length, take, drop};
-ghost use Rattle.store_args.specs.Arguments.{named, modeTested, givenBy, split};
+ghost use Rattle.store_args.specs.Arguments.{named, modeTested, givenBy, argumentsIn};
 ghost use Rattle.store_args.specs.Inner.Filling.{Is, nextArg};
 use ascii::eq;
 use slices::ascii_from;
@@ -107,7 +107,7 @@ pub fn next_arg(args: &[u8], at: usize) -> usize
 
 // How many arguments there are.
 pub fn count_args(args: &[u8]) -> usize
-    ensures { λ r. ⌜ r ≡ length (split (now (args .entry))) ⌝ }
+    ensures { λ r. ⌜ r ≡ length (argumentsIn (now (args .entry))) ⌝ }
 {
     let mut count = 0;
     let mut at = 0;

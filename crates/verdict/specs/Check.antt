@@ -12,7 +12,7 @@ use Rattle.grammar.specs.Reading.{Read, rule, refused, readOf}
 use Rattle.store_table.specs.Names.{has}
 use Rattle.store_table.specs.Stores.{Entry, entriesIn, allNames, writeOnlyNames}
 use Rattle.evaluate.specs.Evict.{envOf, evict}
-use Rattle.decide.specs.Tests.{unlessDue, tableTest, twinTest}
+use Rattle.decide.specs.Tests.{firstRefusal, tableTest, twinTest}
 use Rattle.verdict.specs.declared.Unknown.{Unknown}
 use Rattle.verdict.specs.declared.Unknown.the-variants.{No, At}
 use Rattle.verdict.specs.declared.Verdict.{Verdict}
@@ -72,7 +72,7 @@ checkStores r (e ∷ es) = let stores = e ∷ es in verdict (unknownIn stores r 
 
 -- 17, then 18
 unfoldable pub checkRule : Rule → List ℕ → Verdict
-checkRule r s = unlessDue Refused (tableTest s ∷ twinTest s ∷ []) (checkStores r (entriesIn s))
+checkRule r s = firstRefusal Refused (tableTest s ∷ twinTest s ∷ []) (checkStores r (entriesIn s))
 
 -- "Check tests 16 to 18"
 abbrev pub checkDecoded : Option Rule → List ℕ → Verdict

@@ -7,7 +7,7 @@ ghost use Rattle.rules.specs.Rule.{Leaf, Rule};
 ghost use Rattle.rules.specs.Rule.{size as sizeOf};
 ghost use Rattle.image.specs.Kinds.{namedKind};
 ghost use Rattle.image.specs.Decode.{aLeaf, meaning, cellAt};
-ghost use Rattle.image.specs.Inner.Standing.{EncodedAt};
+ghost use Rattle.image.specs.Inner.EncodedAt.{EncodedAt};
 ghost use Rattle.image.specs.Inner.Subtree.{ValidSubtree};
 ghost use Rattle.store_table.specs.Stores.{Entry, twinOf, entriesIn};
 ghost use Rattle.store_table.specs.Inner.Index.{IndexedAll};

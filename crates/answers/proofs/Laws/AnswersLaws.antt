@@ -20,7 +20,7 @@ use Rattle.print.specs.declared.Printing.{Printing}
 use Rattle.print.specs.declared.Printing.the-variants.{Printed, Refused as Unprinted}
 use Rattle.print.specs.Printed.{printInto}
 use Rattle.print.proofs.Laws.ValueLaws as printing
-use Rattle.answers.specs.Answers.{packed, ofReading, ofDecision, ofVerdict, ofPrinting}
+use Rattle.answers.specs.Answers.{packedAnswer, ofReading, ofDecision, ofVerdict, ofPrinting}
 
 -- an answer divided by 2^32 is the number, and its remainder the value
 pub record ReadBack (answer number value : ℕ) : Type 0 where
@@ -28,7 +28,7 @@ pub record ReadBack (answer number value : ℕ) : Type 0 where
   pub value-back : answer % 2 ^ 32 ≡ value
 
 -- since the value is below 2^32
-small : (number value : ℕ) → value < 2 ^ 32 → ReadBack (packed number value) number value
+small : (number value : ℕ) → value < 2 ^ 32 → ReadBack (packedAnswer number value) number value
 small number value h = record { number-back = omega arith; value-back = omega arith }
 
 -- of a refusal

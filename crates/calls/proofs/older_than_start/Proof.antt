@@ -5,7 +5,7 @@ use Rattle.tokens.specs.Token.{nextOf}
 use Rattle.durations.specs.Duration.{durationOf}
 use Rattle.grammar.specs.Grammar.{olderThanStart}
 use Rattle.classes.specs.Class.{closeBracket}
-use Rattle.grammar.proofs.Laws.TokenListLaws.{first-place, after-on, word-due, word-part, steps}
+use Rattle.grammar.proofs.Laws.TokenListLaws.{first-place, after-on, word-expected, word-part, steps}
 use Rattle.grammar.proofs.Laws.StartLaws.{begins-refused, begins-leaf, told}
 use Rattle.grammar.proofs.Tags.{no-word, no-sign}
 use borrow.Author.Needs.{needs}
@@ -27,7 +27,7 @@ returns-2 c =
     let bracket = m .before .token-at2 .ensures in
     begins-refused (c .refuse2 .ensures) (c .before .place-of2 .ensures)
     (rw (
-      word-due _ _ (sym (t .before .before .token-at .ensures) ∙ t .t .given .1),
+      word-expected _ _ (sym (t .before .before .token-at .ensures) ∙ t .t .given .1),
       no-sign _ _ bracket closeBracket tt (m .match2 .keys2),
       first-place _ _ (sym bracket),
     ))
@@ -50,7 +50,7 @@ returns-3 c =
     let second = steps _ _ bracket refl in
     begins-leaf
     (rw (
-      word-due _ _ word,
+      word-expected _ _ word,
       after-on _ _ bracket refl closeBracket refl,
       told durationOf (d .before .word-of .ensures) (d .parse-duration .ensures) (c .before .milliseconds .given .1),
     ))
@@ -64,7 +64,7 @@ returns-4 c =
     let t = u .before .before .before .before in
     begins-refused (c .refuse3 .ensures) refl
     (rw (
-      word-due _ _ (sym (t .before .before .token-at .ensures) ∙ t .t .given .1),
+      word-expected _ _ (sym (t .before .before .token-at .ensures) ∙ t .t .given .1),
       after-on _ _ (sym (u .before .before .token-at2 .ensures) ∙ u .bracket .given .1) refl closeBracket refl,
       told durationOf (d .before .word-of .ensures) (d .parse-duration .ensures) (c .before .enum-told .given .1),
     ))

@@ -7,13 +7,13 @@ use lib.ListN.{length, take}
 use lib.Seq.{take-all}
 use Rattle.store_table.specs.Stores.{entriesIn, allNames}
 use Rattle.store_table.proofs.Laws.WalkLaws.{length-entries, standing-start, standing-within, standing-next, standing-here}
-use Rattle.store_table.specs.Inner.Index.{Marked, Standing}
+use Rattle.store_table.specs.Inner.Index.{Marked, EntryWalk}
 use Rattle.store_table.proofs.Laws.MarkLaws.{marked-start, marked-found, marked-none}
 use Rattle.confirmed.proofs.mark_confirmed.Statement.{statement}
 use Rattle.confirmed.proofs.mark_confirmed.Tie as tie
 
 abbrev Inv-loop : tie.InvT-loop
-Inv-loop stores list starts slots marks₀ count k₀ at₀ marks k at = Standing list count k at × Marked (entriesIn stores) (allNames (take k (entriesIn list))) marks
+Inv-loop stores list starts slots marks₀ count k₀ at₀ marks k at = EntryWalk list count k at × Marked (entriesIn stores) (allNames (take k (entriesIn list))) marks
 
 abbrev μ-loop : tie.MeasureT-loop
 μ-loop stores list starts slots marks₀ count k₀ at₀ marks k at = count - k

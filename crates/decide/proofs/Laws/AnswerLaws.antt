@@ -11,7 +11,7 @@ use Rattle.image.specs.Inner.Valid.{isSome}
 use Rattle.image.proofs.Laws.FitLaws.{isSome-true, isSome-false}
 use Rattle.store_table.specs.Stores.{isTable, isList, entriesIn, allNames, readyCount, twinOf}
 use Rattle.store_table.specs.declared.Twin.the-variants.{No, At}
-use Rattle.image.specs.Inner.Standing.{EncodedAt}
+use Rattle.image.specs.Inner.EncodedAt.{EncodedAt}
 use Rattle.evaluate.specs.Evict.{evict}
 use Rattle.decide.specs.Decide.{decisionOf, decideOf}
 use Rattle.decide.proofs.Laws.DecideLaws.{decide-16, decide-17, decide-18, decide-19, decide-says}

@@ -10,7 +10,7 @@ use lib.Dec.{ltb}
 use lib.ListN.{length, set, length-append}
 use lib.Seq.{append-snoc}
 use Rattle.slices.specs.Text.{WrittenAt}
-use Rattle.slices.proofs.Laws.WrittenLaws.{put-none, put-byte, put-before, put-length}
+use Rattle.slices.proofs.Laws.WrittenLaws.{written-at-none, written-at-byte, written-at-before, written-at-length}
 use Rattle.decimal.specs.Decimal.{digitValue, decimalFrom, decimal}
 use Rattle.decimal.specs.Digits.{digit, digitsIn, digitsOf}
 
@@ -114,7 +114,7 @@ pub record PutBehind (n left : ℕ) (before after : List ℕ) (at end : ℕ) : T
 
 -- before the first turn
 pub behind-none : (n : ℕ) (s : List ℕ) (end : ℕ) → PutBehind n n s s end end
-behind-none n s end = record { digits = []; put = put-none s end; whole = append-nil (digitsOf n) }
+behind-none n s end = record { digits = []; put = written-at-none s end; whole = append-nil (digitsOf n) }
 
 module _ (n left : ℕ) {before after : List ℕ} {at end : ℕ} (b : PutBehind n left before after at end) where
   -- there is room for those of `left`
@@ -123,7 +123,7 @@ module _ (n left : ℕ) {before after : List ℕ} {at end : ℕ} (b : PutBehind 
 
   module _ (h : length (digitsOf n) ≤ end) (k : end ≤ length before) where
     byte-put : (d : ℕ) → WrittenAt before (set after (at - 1) d) (at - 1) end (d ∷ b .digits)
-    byte-put d = let r = behind-room h in put-before k (b .put) (put-byte after at d (r .0) (omega (arith, put-length k (b .put))))
+    byte-put d = let r = behind-room h in written-at-before k (b .put) (written-at-byte after at d (r .0) (omega (arith, written-at-length k (b .put))))
 
     -- a turn
     pub behind-on : 10 ≤ left → left < 2 ^ 64 → PutBehind n (left / 10) before (set after (at - 1) (digit (left % 10))) (at - 1) end

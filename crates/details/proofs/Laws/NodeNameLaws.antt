@@ -10,7 +10,7 @@ use Rattle.rules.specs.Rule.{named, olderThan, readable, Rule, leaf, node, Rule
 use Rattle.image.specs.Kinds.{namedKind}
 use Rattle.image.specs.Layout.{nodeCountIn, nameOf}
 use Rattle.image.specs.Decode.{Node, nodeAt, Meaning, aLeaf, aJoin, nothing, meaning, Cell, cellAt}
-use Rattle.image.specs.Inner.Standing.{EncodedAt, EncodedAllAt}
+use Rattle.image.specs.Inner.EncodedAt.{EncodedAt, EncodedAllAt}
 use Rattle.grammar.specs.Reading.{readOf}
 use Rattle.grammar.proofs.Laws.FitsLaws.{read-decodes, read-length}
 use Rattle.image.proofs.Laws.InsideLaws.{Whole, decode-whole}

@@ -9,13 +9,13 @@ use borrow.Author.Tests.{ne-eqb}
 use lib.ListN.{length, drop, length-append, drop-of-length-le}
 use Rattle.ascii.specs.Letters.{within}
 use Rattle.slices.specs.Text.{WrittenAt}
-use Rattle.slices.proofs.Laws.WrittenLaws.{put-none, put-behind, put-length}
+use Rattle.slices.proofs.Laws.WrittenLaws.{written-at-none, written-at-after, written-at-length}
 use Rattle.slices.proofs.Laws.SearchLaws.{is-below, is-above}
 use Rattle.refusals.specs.declared.Refusal.{Refusal}
 use Rattle.lines.proofs.Laws.LinesLaws.{shown-length}
 use Rattle.store_table.specs.Stores.{Entry, writeOnly, namesStart, countIn, entriesIn, writeOnlyNames}
 use Rattle.store_table.specs.Inner.Bounds.{TableInBounds}
-use Rattle.store_table.specs.Inner.Index.{Standing, EntryAt, lengthAt}
+use Rattle.store_table.specs.Inner.Index.{EntryWalk, EntryAt, lengthAt}
 use Rattle.store_table.proofs.Laws.WalkLaws.{length-entries, standing-start, standing-next, standing-here, entryAt}
 use Rattle.details.specs.Report.{confirmedLine, confirmedLines, detail}
 use Rattle.details.proofs.Laws.ShortLaws.{lines-short}
@@ -37,17 +37,17 @@ detail-none text es f o a b c d =
 
 -- after k stores: the lines that are written, and those of the stores that are left
 pub record Named (s a b : List ℕ) (at count k start end : ℕ) : Type 0 where
-  pub stands : Standing s count k start
+  pub stands : EntryWalk s count k start
   pub done : List ℕ
   pub put : WrittenAt a b at end done
   pub rest : done ++ confirmedLines (writeOnlyNames (drop k (entriesIn s))) ≡ confirmedLines (writeOnlyNames (entriesIn s))
 
 pub named-start : (s a : List ℕ) (at count : ℕ) → TableInBounds s → count ≡ countIn s → Named s a a at count 0 (namesStart count) at
-named-start s a at count h e = record { stands = standing-start s count h e; done = []; put = put-none a at; rest = refl }
+named-start s a at count h e = record { stands = standing-start s count h e; done = []; put = written-at-none a at; rest = refl }
 
 module _ {s a b : List ℕ} {at count k start end : ℕ} (h : Named s a b at count k start end) (room : at + length s + 768 ≤ length a) where
   pub named-length : length b ≡ length a
-  named-length = put-length (omega (arith, simp length-append at (ap length (h .rest)), lines-short s (h .stands .laid))) (h .put)
+  named-length = written-at-length (omega (arith, simp length-append at (ap length (h .rest)), lines-short s (h .stands .laid))) (h .put)
 
   pub named-end : count ≤ k → WrittenAt a b at end (confirmedLines (writeOnlyNames (entriesIn s)))
   unfolding confirmedLines writeOnlyNames
@@ -86,6 +86,6 @@ module _ {s a b : List ℕ} {at count k start end : ℕ} (h : Named s a b at cou
           record {
             stands = standing-next (h .stands) lt e;
             done = h .done ++ confirmedLine (entryAt s k start len .name);
-            put = put-behind (omega arith) (h .put) p;
+            put = written-at-after (omega arith) (h .put) p;
             rest = rw append-assoc rest-yes;
           }

@@ -4,7 +4,7 @@ use Prim.Native.Nat.{_≤_}
 use native.Mathlib.Omega.{arith}
 use borrow.Author.Needs.{needs}
 use lib.ListN.{length}
-use Rattle.slices.proofs.Laws.WrittenLaws.{put-behind}
+use Rattle.slices.proofs.Laws.WrittenLaws.{written-at-after}
 use Rattle.decimal.proofs.Laws.DigitsLaws.{digits-short}
 use Rattle.verdict.specs.Check.{oldest}
 use Rattle.details.proofs.append_age.Statement.{statement}
@@ -20,7 +20,7 @@ returns c =
     let e₁ = e₂ .before .before .before .before in
     let a = e₁ .before .before .before .before .args in
     let h : a .at ≤ length (a .page .now) = omega arith in
-    simp append-assoc at (put-behind h (put-behind h (e₁ .append .ensures) (e₂ .append-digits .ensures)) (e₃ .append2 .ensures))
+    simp append-assoc at (written-at-after h (written-at-after h (e₁ .append .ensures) (e₂ .append-digits .ensures)) (e₃ .append2 .ensures))
 
 pub append-age-spec : {M : Type 1} → statement M
 append-age-spec =

@@ -4,7 +4,7 @@ use Prim.Native.Nat.{_≤_}
 use native.Mathlib.Omega.{arith}
 use borrow.Author.Needs.{needs}
 use lib.ListN.{length}
-use Rattle.slices.proofs.Laws.WrittenLaws.{put-behind}
+use Rattle.slices.proofs.Laws.WrittenLaws.{written-at-after}
 use Rattle.lines.proofs.Laws.LinesLaws.{shown-length}
 use Rattle.details.proofs.append_confirmed.Statement.{statement}
 use Rattle.details.proofs.append_confirmed.Tie as tie
@@ -19,7 +19,7 @@ returns c =
     let e₁ = e₂ .before .before .before .before in
     let a = e₁ .before .before .before .before .before .args in
     let h : a .at ≤ length (a .page .now) = omega arith in
-    simp append-assoc at (put-behind h (put-behind h (e₁ .append .ensures) (e₂ .append-shown .ensures)) (e₃ .append2 .ensures))
+    simp append-assoc at (written-at-after h (written-at-after h (e₁ .append .ensures) (e₂ .append-shown .ensures)) (e₃ .append2 .ensures))
 
 pub append-confirmed-spec : {M : Type 1} → statement M
 append-confirmed-spec =

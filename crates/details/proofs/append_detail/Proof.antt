@@ -7,7 +7,7 @@ use borrow.Author.Needs.{needs}
 use lib.ListN.{length}
 use Rattle.slices.proofs.Laws.SearchLaws.{is-within}
 use Rattle.slices.specs.Text.{WrittenAt}
-use Rattle.slices.proofs.Laws.WrittenLaws.{put-none, put-behind}
+use Rattle.slices.proofs.Laws.WrittenLaws.{written-at-none, written-at-after}
 use Rattle.decimal.proofs.Laws.DigitsLaws.{digits-short}
 use Rattle.lines.proofs.Laws.LinesLaws.{shown-length}
 use Rattle.grammar.specs.Reading.{readOf}
@@ -25,7 +25,7 @@ no-more : (c : tie.At-match-rest) →
 no-more c o =
     let a = c .before .before .before .before .args in
     let r = c .match .rest in
-    rw (detail-none (a .text .now) (entriesIn (a .stores .now)) (a .f) o (r .0 .0 .0 .1) (r .0 .0 .1) (r .0 .1) (r .1)) (put-none _ _)
+    rw (detail-none (a .text .now) (entriesIn (a .stores .now)) (a .f) o (r .0 .0 .0 .1) (r .0 .0 .1) (r .0 .1) (r .1)) (written-at-none _ _)
 
 add-append-digits : tie.Need-add-append-digits
 add-append-digits c =
@@ -57,7 +57,7 @@ returns c =
     let m = e₁ .before .before .before in
     let a = m .before .before .before .before .args in
     let h : a .at ≤ length (a .page .now) = omega arith in
-    rw (m .match .keys1) (simp (append-assoc, add-one) at (put-behind h (put-behind h (e₁ .append .ensures) (e₂ .append-digits .ensures)) (e₃ .append2 .ensures)))
+    rw (m .match .keys1) (simp (append-assoc, add-one) at (written-at-after h (written-at-after h (e₁ .append .ensures) (e₂ .append-digits .ensures)) (e₃ .append2 .ensures)))
 
 returns-2 : tie.Need-returns-2
 unfolding detail
@@ -65,7 +65,7 @@ returns-2 c =
     let e₂ = c .before .before in
     let e₁ = e₂ .before .before .before .before .before in
     let m = e₁ .before .before in
-    rw (m .match .keys2) (put-behind (omega arith) (e₁ .append-node .ensures) (e₂ .append3 .ensures))
+    rw (m .match .keys2) (written-at-after (omega arith) (e₁ .append-node .ensures) (e₂ .append3 .ensures))
 
 returns-3 : tie.Need-returns-3
 unfolding detail
@@ -73,7 +73,7 @@ returns-3 c =
     let e₂ = c .before .before in
     let e₁ = e₂ .before .before .before .before in
     let m = e₁ .before .before .before in
-    rw (m .match .keys3) (put-behind (omega arith) (e₁ .append4 .ensures) (e₂ .append-age .ensures))
+    rw (m .match .keys3) (written-at-after (omega arith) (e₁ .append4 .ensures) (e₂ .append-age .ensures))
 
 returns-4 : tie.Need-returns-4
 unfolding detail
@@ -81,7 +81,7 @@ returns-4 c =
     let e₂ = c .before .before in
     let e₁ = e₂ .before .before .before .before in
     let m = e₁ .before .before in
-    rw (m .match .keys4) (put-behind (omega arith) (e₁ .append-write-only .ensures) (e₂ .append-age2 .ensures))
+    rw (m .match .keys4) (written-at-after (omega arith) (e₁ .append-write-only .ensures) (e₂ .append-age2 .ensures))
 
 returns-5 : tie.Need-returns-5
 unfolding detail

@@ -4,7 +4,7 @@ use mathlib.Core.Path.{_≡_, refl, sym}
 use native.Mathlib.Omega.{arith}
 use lib.ListN.{take, length-take}
 use lib.Seq.{length-take-le}
-use Rattle.slices.proofs.Laws.WrittenLaws.{put-none}
+use Rattle.slices.proofs.Laws.WrittenLaws.{written-at-none}
 use Rattle.lines.specs.Lines.{shownAll}
 use Rattle.image.specs.Kinds.{namedKind}
 use Rattle.image.specs.Inner.Subtree.{NameInside}
@@ -21,7 +21,7 @@ the-rule c = read-rule _ _ (search needs) (c .before .before .before .before .re
 
 returns : tie.Need-returns
 unfolding shownAll
-returns c = rw (read-refused _ _ (search needs) (c .before .before .before .read .ensures) (c .enum-told .given .1)) (put-none _ _)
+returns c = rw (read-refused _ _ (search needs) (c .before .before .before .read .ensures) (c .enum-told .given .1)) (written-at-none _ _)
 
 array-share-prefix-image : tie.Need-array-share-prefix-image
 array-share-prefix-image c = the-rule c .within
@@ -34,7 +34,7 @@ node-count-requires c κs = omega (arith, taken-whole (the-rule (c .before)) ref
 
 returns-2 : tie.Need-returns-2
 unfolding shownAll
-returns-2 c = rw (name-past (the-rule (c .before .before .before)) (c .before .node-count .ensures .0) (c .if1 .taken)) (put-none _ _)
+returns-2 c = rw (name-past (the-rule (c .before .before .before)) (c .before .node-count .ensures .0) (c .if1 .taken)) (written-at-none _ _)
 
 node-at-requires : tie.Need-node-at-requires
 node-at-requires c κs = (taken-whole (the-rule (c .before .before .before)) (c .before .node-count .ensures .0) .inside .long, c .if1 .left)
@@ -63,7 +63,7 @@ returns-4 : tie.Need-returns-4
 unfolding shownAll
 returns-4 c =
     let d = c .before in
-    rw (name-not (the-rule (d .before .before .before .before)) (d .before .before .node-count .ensures .0) (d .node-at .ensures) (d .before .if1 .left) (c .if2 .left)) (put-none _ _)
+    rw (name-not (the-rule (d .before .before .before .before)) (d .before .before .node-count .ensures .0) (d .node-at .ensures) (d .before .if1 .left) (c .if2 .left)) (written-at-none _ _)
 
 pub append-node-spec : {M : Type 1} → statement M
 append-node-spec =

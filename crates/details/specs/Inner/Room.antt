@@ -9,7 +9,7 @@ use Rattle.verdict.specs.declared.Verdict.the-variants.{Refused}
 use Rattle.store_table.specs.Inner.Bounds.{TableInBounds}
 
 -- what is known of a refusal that judging gives: 3 to 15 come from a text of at most 2,048 bytes, and 18 has the index of one of 64 stores
-pub record Due (text : List ℕ) (f : Refusal) : Type 0 where
+pub record RefusalBounds (text : List ℕ) (f : Refusal) : Type 0 where
   pub short : 3 ≤ f .number → f .number ≤ 15 → length text ≤ 2048
   pub index : f .number ≡ 18 → f .place < 64
 
@@ -18,11 +18,11 @@ pub record Room (page : List ℕ) (at : ℕ) (text stores : List ℕ) (f : Refus
   pub laid : TableInBounds stores
   pub small : length stores ≤ 16_452
   pub room : at + 32_000 ≤ length page
-  pub due : Due text f
+  pub due : RefusalBounds text f
 
 -- the same for a verdict
 pub record Ready (page : List ℕ) (text stores : List ℕ) (v : Verdict) : Type 0 where
   pub laid : TableInBounds stores
   pub small : length stores ≤ 16_452
   pub room : 32_768 ≤ length page
-  pub due : (f : Refusal) → v ≡ Refused f → Due text f
+  pub due : (f : Refusal) → v ≡ Refused f → RefusalBounds text f

@@ -1,7 +1,7 @@
 -- `duration_text::format_duration` meets its contract: the parts, written from the last to the first, are the text. Assumes nothing.
 use native.Mathlib.Omega.{arith}
 use borrow.Author.Needs.{needs}
-use Rattle.slices.proofs.Laws.WrittenLaws.{put-before}
+use Rattle.slices.proofs.Laws.WrittenLaws.{written-at-before}
 use Rattle.duration_text.proofs.Laws.DurationTextLaws.{duration-zero, duration-parts, duration-length}
 use Rattle.duration_text.proofs.format_duration.Statement.{statement}
 use Rattle.duration_text.proofs.format_duration.Tie as tie
@@ -48,7 +48,7 @@ returns-2 c =
     let e = millis .before .before .before in
     let h = e .before .before .pre .1 in
     rw (duration-parts _ (e .if1 .left))
-    (put-before h (put-before h (put-before h (put-before h (millis .prepend-part .ensures) (seconds .prepend-part2 .ensures)) (minutes .prepend-part3 .ensures)) (hours .prepend-part4 .ensures)) (days .prepend-part5 .ensures))
+    (written-at-before h (written-at-before h (written-at-before h (written-at-before h (millis .prepend-part .ensures) (seconds .prepend-part2 .ensures)) (minutes .prepend-part3 .ensures)) (hours .prepend-part4 .ensures)) (days .prepend-part5 .ensures))
 
 pub format-duration-spec : {M : Type 1} → statement M
 format-duration-spec =

@@ -6,7 +6,7 @@ use Prim.Native.Nat.{ℕ, _+_, _≤_, _<_}
 use native.Mathlib.Omega.{arith}
 use Rattle.rules.specs.Rule.{Leaf, Rule, leaf, node, Rules, nil, more, size, sizes}
 use Rattle.image.specs.Decode.{aLeaf, Cell}
-use Rattle.image.specs.Inner.Standing.{EncodedAt, EncodedAllAt}
+use Rattle.image.specs.Inner.EncodedAt.{EncodedAt, EncodedAllAt}
 use Rattle.evaluate.specs.Evict.{Env, leafSays, evict, answers}
 use Rattle.evaluate.specs.Inner.By.{evictBy, answersBy}
 

@@ -8,8 +8,8 @@ use lib.ListN.{length}
 use Rattle.rules.specs.Rule.{Leaf, Join, Rule, leaf, node, Rules, nil, more, size, sizes}
 use Rattle.image.specs.Decode.{Meaning, aLeaf, aJoin, Cell}
 use Rattle.image.proofs.Laws.EncodeLaws.{size-pos}
-use Rattle.image.proofs.Laws.StandingLaws.{root-size}
-use Rattle.image.specs.Inner.Standing.{EncodedAt, EncodedAllAt}
+use Rattle.image.proofs.Laws.EncodedAtLaws.{root-size}
+use Rattle.image.specs.Inner.EncodedAt.{EncodedAt, EncodedAllAt}
 use Rattle.evaluate.specs.Evict.{countTrue, joinSays}
 use Rattle.evaluate.specs.Inner.By.{evictBy, answersBy}
 use Rattle.image.specs.Inner.Subtree.{Subtree}

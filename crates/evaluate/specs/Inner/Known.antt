@@ -13,7 +13,7 @@ use Rattle.evaluate.specs.Evict.{Env, leafSays}
 use Rattle.evaluate.specs.declared.leaves.EnvNumbers.{EnvNumbers}
 
 -- a table that is indexed, and a list whose names are marked in it
-pub record Known (stores list starts slots marks : List ℕ) : Type 0 where
+pub record Prepared (stores list starts slots marks : List ℕ) : Type 0 where
   pub table : TableInBounds stores
   pub listed : TableInBounds list
   pub indexed : Indexed stores (countIn stores) starts slots

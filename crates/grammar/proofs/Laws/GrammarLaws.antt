@@ -13,14 +13,14 @@ use Rattle.rules.specs.Rule.{Join, all, any, Rule, node, Rules, nil, more}
 use Rattle.grammar.specs.Grammar.{rest, missing, after, firstPlace, PrimaryStart, aLeaf, aGroup, aList, refused, primaryStart, ParseResult, got, bad, onto, onRest, closeAfter, byStart, orIn, orMore, andIn, andMore, primaryIn, listMore}
 use Rattle.classes.specs.Class.{closeBracket, comma, ampersand, bar}
 use Rattle.grammar.specs.Reading.{ended, parseOf}
-use Rattle.grammar.specs.Inner.Rules.{headRest, leftOf, orOf, andOf, primaryOf, orRest, andRest, listRest}
+use Rattle.grammar.specs.Inner.Rules.{startRest, leftOf, orOf, andOf, primaryOf, orRest, andRest, listRest}
 use Rattle.grammar.proofs.Laws.TakenLaws.{Sign, by-after, on-rest, Begun, head-begun, MadeRule, Holds, or-made, and-made, primary-made}
 
 -- ---- fewer tokens are left
 rest-fewer : (vs : List Token) {us : List Token} {n : ℕ} → length vs < n → rest vs ≡ rest us → length us < n
 rest-fewer vs {us} l e = let i : vs ≡ us = cc in rw i at l
 
-begun-fewer : (s : List ℕ) (ts : List Token) (h : PrimaryStart) {us : List Token} → Begun s ts h → headRest h ≡ rest us → length us < length ts
+begun-fewer : (s : List ℕ) (ts : List Token) (h : PrimaryStart) {us : List Token} → Begun s ts h → startRest h ≡ rest us → length us < length ts
 begun-fewer s ts (aLeaf l vs) b e = rest-fewer vs (b .taken .fewer) e
 begun-fewer s ts (aGroup vs) b e = rest-fewer vs (b .fewer) e
 begun-fewer s ts (aList j p vs) b e = rest-fewer vs (b .0 .fewer) e
@@ -38,7 +38,7 @@ onto-left j l (got r us) = refl
 onto-left j l (bad f) = refl
 
 module _ (s : List ℕ) where
-  pub head-fewer : (d : ℕ) (ts : List Token) {us : List Token} → headRest (primaryStart s d ts) ≡ rest us → length us < length ts
+  pub head-fewer : (d : ℕ) (ts : List Token) {us : List Token} → startRest (primaryStart s d ts) ≡ rest us → length us < length ts
   head-fewer d ts e = begun-fewer s ts (primaryStart s d ts) (head-begun s d ts) e
 
   pub or-fewer : (f d : ℕ) (ts : List Token) {r : Rule} {us : List Token} → orIn f s d ts ≡ got r us → length us < length ts
@@ -79,7 +79,7 @@ module _ (s : List ℕ) where
       (on-rest (λ g. leftOf g ≤ length us) closeBracket us _ _ (omega arith) (λ vs t. omega arith) (omega arith))
 
 -- ---- given enough calls, their bound does not matter
-head-same : (h : PrimaryStart) (i i′ : List Token → ParseResult) (l l′ : Join → List Token → ParseResult) → ((us : List Token) → headRest h ≡ rest us → i us ≡ i′ us) → ((j : Join) (us : List Token) → headRest h ≡ rest us → l j us ≡ l′ j us) → byStart h i l ≡ byStart h i′ l′
+head-same : (h : PrimaryStart) (i i′ : List Token → ParseResult) (l l′ : Join → List Token → ParseResult) → ((us : List Token) → startRest h ≡ rest us → i us ≡ i′ us) → ((j : Join) (us : List Token) → startRest h ≡ rest us → l j us ≡ l′ j us) → byStart h i l ≡ byStart h i′ l′
 head-same (aLeaf x us) i i′ l l′ p q = refl
 head-same (aGroup us) i i′ l l′ p q = ap closeAfter (p us refl)
 head-same (aList j place us) i i′ l l′ p q = ap (onRest (after closeBracket us) _) (q j us refl)

@@ -74,36 +74,36 @@ module _ (m : ℕ) where
   valued-placed Invalid number p then l f = l
 
   module _ (s : List ℕ) where
-    due-placed : (ts : List Token) (then : ℕ → List ℕ → List Token → PrimaryStart) → Placed m ts → ((p : ℕ) (w : List ℕ) (us : List Token) → p ≤ m → Placed m us → HeadPlaced m (then p w us)) → HeadPlaced m (requireWord (expectedWord s ts) then)
+    expected-placed : (ts : List Token) (then : ℕ → List ℕ → List Token → PrimaryStart) → Placed m ts → ((p : ℕ) (w : List ℕ) (us : List Token) → p ≤ m → Placed m us → HeadPlaced m (then p w us)) → HeadPlaced m (requireWord (expectedWord s ts) then)
     unfolding expectedWord placeOf
-    due-placed [] then h f = omega arith
-    due-placed (End p ∷ ts) then h f = h .0
-    due-placed (Open p n ∷ ts) then h f = h .0
-    due-placed (Close p n ∷ ts) then h f = h .0
-    due-placed (Comma p n ∷ ts) then h f = h .0
-    due-placed (And p n ∷ ts) then h f = h .0
-    due-placed (Or p n ∷ ts) then h f = h .0
-    due-placed (Word p a b q n ∷ ts) then h f = f p (part s a b) ts (h .0) (h .1)
-    due-placed (Fault x ∷ ts) then h f = h .0
+    expected-placed [] then h f = omega arith
+    expected-placed (End p ∷ ts) then h f = h .0
+    expected-placed (Open p n ∷ ts) then h f = h .0
+    expected-placed (Close p n ∷ ts) then h f = h .0
+    expected-placed (Comma p n ∷ ts) then h f = h .0
+    expected-placed (And p n ∷ ts) then h f = h .0
+    expected-placed (Or p n ∷ ts) then h f = h .0
+    expected-placed (Word p a b q n ∷ ts) then h f = f p (part s a b) ts (h .0) (h .1)
+    expected-placed (Fault x ∷ ts) then h f = h .0
 
     older-placed : (ts : List Token) → Placed m ts → HeadPlaced m (olderThanStart s ts)
     unfolding olderThanStart
     older-placed ts h =
-        due-placed ts _ h (λ p w us l k.
+        expected-placed ts _ h (λ p w us l k.
         expecting-placed bracketExpected (after closeBracket us) (firstPlace us) _ (after-placed closeBracket us k) (first-placed us k) (λ vs e.
         valued-placed (durationOf w) _ p _ l (λ n. e)))
 
     readable-placed : (ts : List Token) → Placed m ts → HeadPlaced m (readableStart s ts)
     unfolding readableStart
     readable-placed ts h =
-        due-placed ts _ h (λ p w us l k.
+        expected-placed ts _ h (λ p w us l k.
         valued-placed (countOf w) _ p _ l (λ n.
         expecting-placed bracketExpected (after closeBracket us) (firstPlace us) _ (after-placed closeBracket us k) (first-placed us k) (λ vs e. e)))
 
     at-least-placed : (place : ℕ) (ts : List Token) → place ≤ m → Placed m ts → HeadPlaced m (atLeastStart s place ts)
     unfolding atLeastStart
     at-least-placed place ts at h =
-        due-placed ts _ h (λ p w us l k.
+        expected-placed ts _ h (λ p w us l k.
         valued-placed (countOf w) _ p _ l (λ n.
         expecting-placed missingArgument (after comma us) (firstPlace us) _ (after-placed comma us k) (first-placed us k) (λ vs e. (at, e))))
 

@@ -22,7 +22,7 @@ use Rattle.rules.specs.Rule.{named}
 use Rattle.grammar.specs.Grammar as grammar
 use Rattle.grammar.specs.Grammar.{tokenKind, aLeaf, aGroup, aList, refuse, startBy, primaryStart, functionOf}
 use Rattle.classes.specs.Class.{openBracket}
-use Rattle.grammar.specs.Inner.Starts.{leafOf, joinOf, headOf, headNext, left, Begins}
+use Rattle.grammar.specs.Inner.Starts.{leafOf, joinOf, startOf, startNext, left, Begins}
 use Rattle.grammar.proofs.Laws.TokenListLaws.{tokens-next}
 use Rattle.grammar.specs.declared.Test.{Test}
 use Rattle.grammar.specs.declared.Combinator.{Combinator}
@@ -37,7 +37,7 @@ abbrev pub Goes : List ℕ → ℕ → ℕ → ℕ → Type 0
 Goes s lo most n = (lo ≤ n) × (n ≤ length s) × (left s n ≤ most)
 
 module _ {s : List ℕ} {low lo most : ℕ} {g : grammar.PrimaryStart} where
-  goes-to : {h : PrimaryStart} {n : ℕ} → headNext h ≡ To n → g ≡ headOf s h → Goes s lo most n →
+  goes-to : {h : PrimaryStart} {n : ℕ} → startNext h ≡ To n → g ≡ startOf s h → Goes s lo most n →
       ((a b m : ℕ) → h ≡ Name a b m → (low ≤ a) × (a ≤ b) × (b ≤ m)) → Begins s low lo most h g
   goes-to {h} {n} to e within names =
       record { says = sym e; on = λ m q. let same : n ≡ m = cc in rw (← same) within; name = names }
@@ -64,8 +64,8 @@ module _ {s : List ℕ} {low lo most : ℕ} {g : grammar.PrimaryStart} where
   pub begins-refused : {h : PrimaryStart} {n p q : ℕ} → h ≡ Refused (refusal n p) → p ≡ q → g ≡ refuse n q → Begins s low lo most h g
   begins-refused {h} {n} {p} {q} e same r =
       record {
-        says = ap (headOf s) e ∙ ap (refuse n) same ∙ sym r;
-        on = λ m to. let z : _≡_ {A = ℕ} 0 1 = cc (ap headNext e) in absurd (omega arith);
+        says = ap (startOf s) e ∙ ap (refuse n) same ∙ sym r;
+        on = λ m to. let z : _≡_ {A = ℕ} 0 1 = cc (ap startNext e) in absurd (omega arith);
         name = λ a b m is. let z : _≡_ {A = ℕ} 0 1 = cc in absurd (omega arith);
       }
 
@@ -162,9 +162,9 @@ module _ {n : Called} {ns : List Called} (a : Among (n ∷ ns)) {r : Bool} (e : 
 -- ---- what the parser takes from an answer
 module _ {s : List ℕ} (at : ℕ) {low : ℕ} {h : PrimaryStart} {g : grammar.PrimaryStart} (b : Begins s low (at + 1) (left s at - 1) h g) where
   -- what the grammar has
-  pub head-is : {h′ : PrimaryStart} → h ≡ h′ → g ≡ headOf s h′
-  head-is e = sym (b .says) ∙ ap (headOf s) e
+  pub head-is : {h′ : PrimaryStart} → h ≡ h′ → g ≡ startOf s h′
+  head-is e = sym (b .says) ∙ ap (startOf s) e
 
   -- where the text continues
-  pub head-ahead : {n : ℕ} → headNext h ≡ To n → (at < n) × (n ≤ length s) × (left s n < left s at)
+  pub head-ahead : {n : ℕ} → startNext h ≡ To n → (at < n) × (n ≤ length s) × (left s n < left s at)
   head-ahead {n} e = let l = b .on n e in omega (arith, left-some s at)

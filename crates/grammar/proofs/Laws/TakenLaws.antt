@@ -112,17 +112,17 @@ module _ (s : List ℕ) (ts : List Token) where
   valued-begun (Value n) number p then l f = f n refl
   valued-begun Invalid number p then l f = l
 
-  due-begun : (us : List Token) (then : ℕ → List ℕ → List Token → PrimaryStart) → ((p : ℕ) (w : List ℕ) (vs : List Token) → Taken us vs 1 0 → Begun s ts (then p w vs)) → Begun s ts (requireWord (expectedWord s us) then)
+  expected-begun : (us : List Token) (then : ℕ → List ℕ → List Token → PrimaryStart) → ((p : ℕ) (w : List ℕ) (vs : List Token) → Taken us vs 1 0 → Begun s ts (then p w vs)) → Begun s ts (requireWord (expectedWord s us) then)
   unfolding expectedWord
-  due-begun [] then f = omega arith
-  due-begun (End p ∷ us) then f = omega arith
-  due-begun (Open p n ∷ us) then f = omega arith
-  due-begun (Close p n ∷ us) then f = omega arith
-  due-begun (Comma p n ∷ us) then f = omega arith
-  due-begun (And p n ∷ us) then f = omega arith
-  due-begun (Or p n ∷ us) then f = omega arith
-  due-begun (Word p a b q n ∷ us) then f = f p (part s a b) us (omega arith)
-  due-begun (Fault g ∷ us) then f = omega arith
+  expected-begun [] then f = omega arith
+  expected-begun (End p ∷ us) then f = omega arith
+  expected-begun (Open p n ∷ us) then f = omega arith
+  expected-begun (Close p n ∷ us) then f = omega arith
+  expected-begun (Comma p n ∷ us) then f = omega arith
+  expected-begun (And p n ∷ us) then f = omega arith
+  expected-begun (Or p n ∷ us) then f = omega arith
+  expected-begun (Word p a b q n ∷ us) then f = f p (part s a b) us (omega arith)
+  expected-begun (Fault g ∷ us) then f = omega arith
 
   opened-begun : (d p : ℕ) (h : PrimaryStart) → Begun s ts h → Begun s ts (opened d p h)
   opened-begun d p h b = go (ltb d 64)
@@ -141,19 +141,19 @@ module _ (s : List ℕ) (ts : List Token) where
     older-begun : Begun s ts (olderThanStart s us)
     unfolding olderThanStart
     older-begun =
-        due-begun us _ (λ p w vs i. closed-begun vs _ _ (λ xs j.
+        expected-begun us _ (λ p w vs i. closed-begun vs _ _ (λ xs j.
         valued-begun (durationOf w) _ _ _ (omega arith) (λ n e. number-made (omega arith) (duration-small w e))))
 
     readable-begun : Begun s ts (readableStart s us)
     unfolding readableStart
     readable-begun =
-        due-begun us _ (λ p w vs i. valued-begun (countOf w) _ _ _ (omega arith) (λ n e.
+        expected-begun us _ (λ p w vs i. valued-begun (countOf w) _ _ _ (omega arith) (λ n e.
         closed-begun vs _ _ (λ xs j. number-made (omega arith) (count-small w e))))
 
     at-least-begun : (place : ℕ) → Begun s ts (atLeastStart s place us)
     unfolding atLeastStart
     at-least-begun place =
-        due-begun us _ (λ p w vs i. valued-begun (countOf w) _ _ _ (omega arith) (λ n e.
+        expected-begun us _ (λ p w vs i. valued-begun (countOf w) _ _ _ (omega arith) (λ n e.
         by-after (λ r. Begun s ts (expecting missingArgument r (firstPlace vs) (aList (atLeast n) place))) comma vs (omega arith) (omega arith) (λ xs j. (omega arith, count-small w e))))
 
     call-begun : (place : ℕ) (f : Function) → Begun s ts (callStart s place f us)

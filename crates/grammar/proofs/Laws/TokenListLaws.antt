@@ -29,21 +29,21 @@ place-onward t Off more = refl
 place-onward t (To n) more = refl
 
 -- a word is expected, and another token is there
-undue-by : (s : List ℕ) (t : Token) (ts : List Token) → (tokenKind t ≡ 6 → ⊥) → expectedBy s t ts ≡ otherToken (placeOf t)
+other-by : (s : List ℕ) (t : Token) (ts : List Token) → (tokenKind t ≡ 6 → ⊥) → expectedBy s t ts ≡ otherToken (placeOf t)
 unfolding placeOf
-undue-by s (End p) ts h = refl
-undue-by s (Open p n) ts h = refl
-undue-by s (Close p n) ts h = refl
-undue-by s (Comma p n) ts h = refl
-undue-by s (And p n) ts h = refl
-undue-by s (Or p n) ts h = refl
-undue-by s (Word p a b q n) ts h = absurd (h refl)
-undue-by s (Fault f) ts h = refl
+other-by s (End p) ts h = refl
+other-by s (Open p n) ts h = refl
+other-by s (Close p n) ts h = refl
+other-by s (Comma p n) ts h = refl
+other-by s (And p n) ts h = refl
+other-by s (Or p n) ts h = refl
+other-by s (Word p a b q n) ts h = absurd (h refl)
+other-by s (Fault f) ts h = refl
 
-undue-onward : (s : List ℕ) (t : Token) (n : Next) (more : ℕ → List Token) → (tokenKind t ≡ 6 → ⊥) → expectedWord s (onward t n more) ≡ otherToken (placeOf t)
+other-onward : (s : List ℕ) (t : Token) (n : Next) (more : ℕ → List Token) → (tokenKind t ≡ 6 → ⊥) → expectedWord s (onward t n more) ≡ otherToken (placeOf t)
 unfolding expectedWord
-undue-onward s t Off more h = undue-by s t [] h
-undue-onward s t (To n) more h = undue-by s t (more n) h
+other-onward s t Off more h = other-by s t [] h
+other-onward s t (To n) more h = other-by s t (more n) h
 
 module _ (s : List ℕ) (at : ℕ) {t : Token} (e : tokenAt s at ≡ t) where
   pub first-place : firstPlace (tokensFrom s at) ≡ placeOf t
@@ -52,8 +52,8 @@ module _ (s : List ℕ) (at : ℕ) {t : Token} (e : tokenAt s at ≡ t) where
   pub after-off : (k : ℕ) → (tokenKind t ≡ k → ⊥) → after k (tokensFrom s at) ≡ missing
   after-off k h = ap (after k) (tokens-are s at e) ∙ after-onward k t (nextOf t) (tokensFrom s) h
 
-  pub word-undue : (tokenKind t ≡ 6 → ⊥) → expectedWord s (tokensFrom s at) ≡ otherToken (placeOf t)
-  word-undue h = ap (expectedWord s) (tokens-are s at e) ∙ undue-onward s t (nextOf t) (tokensFrom s) h
+  pub word-missing : (tokenKind t ≡ 6 → ⊥) → expectedWord s (tokensFrom s at) ≡ otherToken (placeOf t)
+  word-missing h = ap (expectedWord s) (tokens-are s at e) ∙ other-onward s t (nextOf t) (tokensFrom s) h
 
   -- the text continues after it
   module _ {n : ℕ} (h : nextOf t ≡ To n) where
@@ -68,9 +68,9 @@ module _ (s : List ℕ) (at : ℕ) {t : Token} (e : tokenAt s at ≡ t) where
     steps = let g = goes-on s at (ap nextOf e ∙ h) in let l = left-on s at (ap nextOf e ∙ h) in omega arith
 
 module _ (s : List ℕ) (at : ℕ) {p a b n : ℕ} where
-  pub word-due : {q : _} → tokenAt s at ≡ Word p a b q n → expectedWord s (tokensFrom s at) ≡ expected p (part s a b) (tokensFrom s n)
+  pub word-expected : {q : _} → tokenAt s at ≡ Word p a b q n → expectedWord s (tokensFrom s at) ≡ expected p (part s a b) (tokensFrom s n)
   unfolding expectedWord nextOf
-  word-due e = ap (expectedWord s) (tokens-next s at e refl)
+  word-expected e = ap (expectedWord s) (tokens-next s at e refl)
 
   -- where a word and its part of the text lie
   pub word-part : {q : _} → tokenAt s at ≡ Word p a b q n → (at ≤ p) × (p ≤ a) × (a ≤ b) × (b ≤ n) × (n ≤ length s)

@@ -8,11 +8,11 @@ use Rattle.rules.specs.Rule.{Join, Rules}
 use Rattle.grammar.specs.Grammar.{Rest, rest, missing, PrimaryStart, aLeaf, aGroup, aList, refused, ParseResult, got, bad, orIn, orMore, andIn, andMore, primaryIn, listMore}
 
 -- the tokens that a primary's beginning leaves
-abbrev pub headRest : PrimaryStart → Rest
-headRest (aLeaf l ts) = rest ts
-headRest (aGroup ts) = rest ts
-headRest (aList j place ts) = rest ts
-headRest (refused f) = missing
+abbrev pub startRest : PrimaryStart → Rest
+startRest (aLeaf l ts) = rest ts
+startRest (aGroup ts) = rest ts
+startRest (aList j place ts) = rest ts
+startRest (refused f) = missing
 
 -- how many are left after a rule
 abbrev pub leftOf : ParseResult → ℕ

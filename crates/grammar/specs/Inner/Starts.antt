@@ -27,20 +27,20 @@ joinOf All = all
 joinOf Any = any
 
 -- the answer as the grammar has it: a position represents the tokens from there on
-abbrev pub headOf : List ℕ → PrimaryStart → grammar.PrimaryStart
-headOf s (Name a b n) = grammar.aLeaf (named (part s a b)) (tokensFrom s n)
-headOf s (Tested t n) = grammar.aLeaf (leafOf t) (tokensFrom s n)
-headOf s (Group n) = grammar.aGroup (tokensFrom s n)
-headOf s (Listed c p n) = grammar.aList (joinOf c) p (tokensFrom s n)
-headOf s (Refused f) = grammar.refused f
+abbrev pub startOf : List ℕ → PrimaryStart → grammar.PrimaryStart
+startOf s (Name a b n) = grammar.aLeaf (named (part s a b)) (tokensFrom s n)
+startOf s (Tested t n) = grammar.aLeaf (leafOf t) (tokensFrom s n)
+startOf s (Group n) = grammar.aGroup (tokensFrom s n)
+startOf s (Listed c p n) = grammar.aList (joinOf c) p (tokensFrom s n)
+startOf s (Refused f) = grammar.refused f
 
 -- where the text continues
-abbrev pub headNext : PrimaryStart → Next
-headNext (Name a b n) = To n
-headNext (Tested t n) = To n
-headNext (Group n) = To n
-headNext (Listed c p n) = To n
-headNext (Refused f) = Off
+abbrev pub startNext : PrimaryStart → Next
+startNext (Name a b n) = To n
+startNext (Tested t n) = To n
+startNext (Group n) = To n
+startNext (Listed c p n) = To n
+startNext (Refused f) = Off
 
 -- how many tokens are left from a position on
 abbrev pub left : List ℕ → ℕ → ℕ
@@ -49,8 +49,8 @@ left s at = length (tokensFrom s at)
 -- The answer says what the grammar has. The text continues at `lo` or later, with at most `most` tokens left; a name begins
 -- at `low` or later.
 pub record Begins (s : List ℕ) (low lo most : ℕ) (h : PrimaryStart) (g : grammar.PrimaryStart) : Type 0 where
-  pub says : headOf s h ≡ g
-  pub on : (n : ℕ) → headNext h ≡ To n → (lo ≤ n) × (n ≤ length s) × (left s n ≤ most)
+  pub says : startOf s h ≡ g
+  pub on : (n : ℕ) → startNext h ≡ To n → (lo ≤ n) × (n ≤ length s) × (left s n ≤ most)
   pub name : (a b n : ℕ) → h ≡ Name a b n → (low ≤ a) × (a ≤ b) × (b ≤ n)
 
 -- in a call, whose arguments are read from a position on by one of the grammar's functions

@@ -14,8 +14,8 @@ use Rattle.image.specs.Layout.{nameOf}
 use Rattle.image.specs.Decode.{when, bind, Node, nodeAt, Meaning, aLeaf, aJoin, nothing, argument0, meaning, Cell, cellAt, split, close, place, build, only}
 use Rattle.image.specs.Inner.Valid.{isSome}
 use Rattle.image.specs.Inner.Leaves.{isLeaf}
-use Rattle.image.specs.Inner.Standing.{EncodedAt, EncodedAllAt}
-use Rattle.image.proofs.Laws.StandingLaws.{root-size, Built, built}
+use Rattle.image.specs.Inner.EncodedAt.{EncodedAt, EncodedAllAt}
+use Rattle.image.proofs.Laws.EncodedAtLaws.{root-size, Built, built}
 use Rattle.image.proofs.Laws.EncodeLaws.{size-pos}
 use Rattle.image.proofs.Laws.KindLaws.{leaf-low, leaf-high}
 use Rattle.image.proofs.Laws.BuildLaws.{split-zero, split-more, closed, sizes-close}

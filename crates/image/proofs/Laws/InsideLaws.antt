@@ -18,9 +18,9 @@ use Rattle.image.specs.Decode.{sized as lengths}
 use Rattle.image.proofs.Laws.BuildLaws.{when-some, bind-some}
 use Rattle.image.proofs.Laws.FitLaws.{isSome-true}
 use Rattle.image.proofs.Laws.TestLaws.{sized-true, ends-some, only-some}
-use Rattle.image.proofs.Laws.StandingLaws.{built}
+use Rattle.image.proofs.Laws.EncodedAtLaws.{built}
 use Rattle.image.proofs.Laws.NameRunLaws.{next-le}
-use Rattle.image.specs.Inner.Standing.{EncodedAt}
+use Rattle.image.specs.Inner.EncodedAt.{EncodedAt}
 use Rattle.image.specs.Inner.Subtree.{NamesInside, ValidSubtree}
 
 -- ---- names that end at t lie before it

@@ -7,7 +7,7 @@ use Rattle.rules.specs.Rule.{Rule, size}
 use Rattle.image.specs.Kinds.{namedKind}
 use Rattle.image.specs.Layout.{namesStart, nameStart, nameLength}
 use Rattle.image.specs.Decode.{Cell, cellAt, nodeAt}
-use Rattle.image.specs.Inner.Standing.{EncodedAt}
+use Rattle.image.specs.Inner.EncodedAt.{EncodedAt}
 
 -- the k cells from `from` on are a rule's
 pub record Subtree (f : ℕ → Cell) (from k : ℕ) : Type 0 where
@@ -24,7 +24,7 @@ unfoldable pub NamesInside : List ℕ → ℕ → Type 0
 NamesInside s n = (i : ℕ) → i < n → nodeAt s n i .kind ≡ namedKind → NameInside s n (nodeAt s n i .arg)
 
 -- n nodes, of which the k from `from` on are a rule's, whatever its leaves are
-pub record Row (s : List ℕ) (n from k : ℕ) : Type 0 where
+pub record NodeRow (s : List ℕ) (n from k : ℕ) : Type 0 where
   pub long : namesStart n ≤ length s
   pub within : from + k ≤ n
   pub here : Subtree (cellAt s n) from k
@@ -36,5 +36,5 @@ pub record ValidSubtree (s : List ℕ) (n from k : ℕ) : Type 0 where
   pub within : from + k ≤ n
   pub here : Subtree (cellAt s n) from k
 
-abbrev pub rowOf : {s : List ℕ} {n from k : ℕ} → ValidSubtree s n from k → Row s n from k
+abbrev pub rowOf : {s : List ℕ} {n from k : ℕ} → ValidSubtree s n from k → NodeRow s n from k
 rowOf i = record { long = i .long; within = i .within; here = i .here }

@@ -5,7 +5,7 @@ use native.Mathlib.Omega.{arith}
 use borrow.Author.Needs.{needs}
 use lib.ListN.{length, length-replicate}
 use Rattle.slices.specs.Text.{part}
-use Rattle.slices.proofs.Laws.WrittenLaws.{put-behind}
+use Rattle.slices.proofs.Laws.WrittenLaws.{written-at-after}
 use Rattle.lines.specs.Lines.{markedLine}
 use Rattle.lines.proofs.Laws.LinesLaws.{LineOf, line-of}
 use Rattle.lines.proofs.append_marked.Statement.{statement}
@@ -48,7 +48,7 @@ returns c =
     let m = e₁ .before .before .before in
     let a = m .before .before .before .before .args in
     let h : a .at ≤ length (a .text .now) = omega arith in
-    rw (← m .before .end-of-last .ensures, ← m .mark-at .ensures) (simp append-assoc at (put-behind h (put-behind h (put-behind h (e₁ .append-shown .ensures) (e₂ .append .ensures)) (e₃ .append-blanks .ensures)) (e₄ .append2 .ensures)))
+    rw (← m .before .end-of-last .ensures, ← m .mark-at .ensures) (simp append-assoc at (written-at-after h (written-at-after h (written-at-after h (e₁ .append-shown .ensures) (e₂ .append .ensures)) (e₃ .append-blanks .ensures)) (e₄ .append2 .ensures)))
 
 pub append-marked-spec : {M : Type 1} → statement M
 append-marked-spec =

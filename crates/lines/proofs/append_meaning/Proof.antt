@@ -5,7 +5,7 @@ use Prim.Native.Nat.{_≤_}
 use native.Mathlib.Omega.{arith}
 use borrow.Author.Needs.{needs}
 use lib.ListN.{length}
-use Rattle.slices.proofs.Laws.WrittenLaws.{put-behind}
+use Rattle.slices.proofs.Laws.WrittenLaws.{written-at-after}
 use Rattle.lines.specs.Lines.{trimmed}
 use Rattle.lines.proofs.Laws.LinesLaws.{trimmed-length}
 use Rattle.lines.proofs.append_meaning.Statement.{statement}
@@ -41,7 +41,7 @@ returns c =
     let r = e₁ .before .before .before .before .before in
     let a = r .before .before .args in
     let h : a .at ≤ length (a .text .now) = omega arith in
-    rw (← r .row-of .ensures) (simp append-assoc at (put-behind h (put-behind h (put-behind h (e₁ .append-trimmed .ensures) (e₂ .append .ensures)) (e₃ .append-trimmed2 .ensures)) (e₄ .append2 .ensures)))
+    rw (← r .row-of .ensures) (simp append-assoc at (written-at-after h (written-at-after h (written-at-after h (e₁ .append-trimmed .ensures) (e₂ .append .ensures)) (e₃ .append-trimmed2 .ensures)) (e₄ .append2 .ensures)))
 
 pub append-meaning-spec : {M : Type 1} → statement M
 append-meaning-spec =

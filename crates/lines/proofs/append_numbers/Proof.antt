@@ -4,7 +4,7 @@ use Prim.Native.Nat.{_≤_}
 use native.Mathlib.Omega.{arith}
 use borrow.Author.Needs.{needs}
 use lib.ListN.{length}
-use Rattle.slices.proofs.Laws.WrittenLaws.{put-behind}
+use Rattle.slices.proofs.Laws.WrittenLaws.{written-at-after}
 use Rattle.decimal.proofs.Laws.DigitsLaws.{digits-short}
 use Rattle.lines.proofs.append_numbers.Statement.{statement}
 use Rattle.lines.proofs.append_numbers.Tie as tie
@@ -29,7 +29,7 @@ returns c =
     let e₁ = e₂ .before .before .before .before in
     let a = e₁ .before .before .before .before .args in
     let h : a .at ≤ length (a .text .now) = omega arith in
-    simp append-assoc at (put-behind h (put-behind h (put-behind h (put-behind h (e₁ .append .ensures) (e₂ .append-digits .ensures)) (e₃ .append2 .ensures)) (e₄ .append-digits2 .ensures)) (e₅ .append3 .ensures))
+    simp append-assoc at (written-at-after h (written-at-after h (written-at-after h (written-at-after h (e₁ .append .ensures) (e₂ .append-digits .ensures)) (e₃ .append2 .ensures)) (e₄ .append-digits2 .ensures)) (e₅ .append3 .ensures))
 
 pub append-numbers-spec : {M : Type 1} → statement M
 append-numbers-spec =

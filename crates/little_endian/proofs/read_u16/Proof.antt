@@ -15,11 +15,11 @@ pub read-u16-spec : {M : Type 1} → statement M
 read-u16-spec =
     tie.close
     (tie.spec
-    (λ c. search needs)  -- shared-slice-read-wide
-    (λ c κs. search needs)  -- wide-requires
-    (λ c. search needs)  -- add-wide
-    (λ c. search needs)  -- shared-slice-read-wide-2
-    (λ c κs. search needs)  -- wide-requires-2
+    (λ c. search needs)  -- shared-slice-read-to-u64
+    (λ c κs. search needs)  -- to-u64-requires
+    (λ c. search needs)  -- add-to-u64
+    (λ c. search needs)  -- shared-slice-read-to-u64-2
+    (λ c κs. search needs)  -- to-u64-requires-2
     (λ c. search needs)  -- mul-result
     (λ c. search needs)  -- add-result
     returns)

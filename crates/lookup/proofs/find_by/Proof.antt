@@ -5,7 +5,7 @@ use native.Mathlib.Omega.{arith}
 use borrow.Author.Needs.{needs}
 use lib.ListN.{length, getD}
 use Rattle.store_table.specs.Stores.{countIn}
-use Rattle.store_table.specs.Inner.Index.{Standing}
+use Rattle.store_table.specs.Inner.Index.{EntryWalk}
 use Rattle.store_table.proofs.Laws.WalkLaws.{standing-within, standing-here}
 use Rattle.store_table.proofs.Laws.IndexLaws.{finds-none, finds-at, slot-empty}
 use Rattle.lookup.proofs.find_by.Statement.{statement}
@@ -17,7 +17,7 @@ below c =
     let n = c .before .before .before .before .before in
     omega (arith, n .pre .1 .1 .1 .1 .kept (n .args .hash))
 
-begins : (c : tie.Else1) → Standing (c .before .before .before .before .before .args .s .now) (countIn (c .before .before .before .before .before .args .s .now)) (c .before .to-usize .result - 1) (getD (c .before .before .before .before .before .args .starts .now) (c .before .to-usize .result - 1) 0)
+begins : (c : tie.Else1) → EntryWalk (c .before .before .before .before .before .args .s .now) (countIn (c .before .before .before .before .before .args .s .now)) (c .before .to-usize .result - 1) (getD (c .before .before .before .before .before .args .starts .now) (c .before .to-usize .result - 1) 0)
 begins c = c .before .before .before .before .before .pre .1 .1 .1 .1 .begins _ (below c)
 
 -- its name lies within the bytes

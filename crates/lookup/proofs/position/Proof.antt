@@ -9,13 +9,13 @@ use Rattle.store_table.specs.Names.{has}
 use Rattle.store_table.specs.Stores.{entriesIn, allNames}
 use Rattle.store_table.proofs.Laws.NamesLaws.{has-next}
 use Rattle.store_table.proofs.Laws.IndexLaws.{finds-none, finds-at}
-use Rattle.store_table.specs.Inner.Index.{Standing}
+use Rattle.store_table.specs.Inner.Index.{EntryWalk}
 use Rattle.store_table.proofs.Laws.WalkLaws.{standing-start, standing-within, standing-next, standing-here}
 use Rattle.lookup.proofs.position.Statement.{statement}
 use Rattle.lookup.proofs.position.Tie as tie
 
 abbrev Inv-loop : tie.InvT-loop
-Inv-loop name s first count k₀ at₀ k at = Standing s count k at × (k ≤ first) × (has name (allNames (take k (entriesIn s))) ≡ false)
+Inv-loop name s first count k₀ at₀ k at = EntryWalk s count k at × (k ≤ first) × (has name (allNames (take k (entriesIn s))) ≡ false)
 
 abbrev μ-loop : tie.MeasureT-loop
 μ-loop name s first count k₀ at₀ k at = first - k

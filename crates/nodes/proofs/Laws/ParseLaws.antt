@@ -17,7 +17,7 @@ use Rattle.image.specs.Layout.{tagKind}
 use Rattle.grammar.specs.Grammar.{Rest, rest, missing, after, firstPlace, aLeaf, aGroup, aList, refused, primaryStart, chain, ParseResult, got, bad, onto, onRest, closeAfter, orIn, orMore, andIn, andMore, primaryIn, listMore}
 use Rattle.classes.specs.Class.{ampersand, bar, comma, closeBracket}
 use Rattle.grammar.specs.Inner.Starts.{left}
-use Rattle.nodes.specs.Inner.Parses.{Arrays, Long, Holds, Read, Parsed, Written, Joined, keepIf}
+use Rattle.nodes.specs.Inner.Parses.{Arrays, Long, Holds, ParsedRule, ParseAnswer, Written, Joined, keepIf}
 use Rattle.nodes.proofs.Laws.ArrayLaws.{holds-as, holds-join, holds-push, holds-none, front, rebased}
 use Rattle.nodes.proofs.Laws.ChainLaws.{Chains, by-all, by-any, chained}
 use Rattle.nodes.specs.declared.ParseEnd.{ParseEnd}
@@ -25,17 +25,17 @@ use Rattle.nodes.specs.declared.ParseEnd.the-variants.{Done, Refused}
 
 -- ---- an answer, by its case
 module _ {G : ℕ → ParseResult} {need : ℕ} {s : List ℕ} {at n m : ℕ} {b a : Arrays} where
-  pub gave-done : {r : ParseEnd} {e n₁ m₁ : ℕ} → r ≡ Done e n₁ m₁ → Read G need s at n m b a e n₁ m₁ → Parsed G need s at n m b a r
+  pub gave-done : {r : ParseEnd} {e n₁ m₁ : ℕ} → r ≡ Done e n₁ m₁ → ParsedRule G need s at n m b a e n₁ m₁ → ParseAnswer G need s at n m b a r
   gave-done {r} {e} {n₁} {m₁} h read = record {
     done = λ e′ n′ m′ q.
         let qe : e ≡ e′ = cc in
         let qn : n₁ ≡ n′ = cc in
         let qm : m₁ ≡ m′ = cc in
-        subst (λ (i : ℕ). Read G need s at n m b a e′ n′ i) qm (subst (λ (i : ℕ). Read G need s at n m b a e′ i m₁) qn (subst (λ (i : ℕ). Read G need s at n m b a i n₁ m₁) qe read));
+        subst (λ (i : ℕ). ParsedRule G need s at n m b a e′ n′ i) qm (subst (λ (i : ℕ). ParsedRule G need s at n m b a e′ i m₁) qn (subst (λ (i : ℕ). ParsedRule G need s at n m b a i n₁ m₁) qe read));
     refused = λ x q. let z : _≡_ {A = ℕ} 0 1 = cc in absurd (omega arith);
   }
 
-  pub gave-refused : {r : ParseEnd} {x : Refusal} → r ≡ Refused x → ((f : ℕ) → need ≤ f → G f ≡ bad x) → Parsed G need s at n m b a r
+  pub gave-refused : {r : ParseEnd} {x : Refusal} → r ≡ Refused x → ((f : ℕ) → need ≤ f → G f ≡ bad x) → ParseAnswer G need s at n m b a r
   gave-refused {r} {x} h not = record {
     done = λ e n₁ m₁ q. let z : _≡_ {A = ℕ} 0 1 = cc in absurd (omega arith);
     refused = λ x′ q f le.
@@ -45,7 +45,7 @@ module _ {G : ℕ → ParseResult} {need : ℕ} {s : List ℕ} {at n m : ℕ} {b
   }
 
   -- the same from other arrays that begin the same way
-  pub rebase : {b′ : Arrays} {e n₁ m₁ : ℕ} → (take n (b′ .tags) ≡ take n (b .tags)) × (take n (b′ .args) ≡ take n (b .args)) × (take m (b′ .names) ≡ take m (b .names)) → Read G need s at n m b′ a e n₁ m₁ → Read G need s at n m b a e n₁ m₁
+  pub rebase : {b′ : Arrays} {e n₁ m₁ : ℕ} → (take n (b′ .tags) ≡ take n (b .tags)) × (take n (b′ .args) ≡ take n (b .args)) × (take m (b′ .names) ≡ take m (b .names)) → ParsedRule G need s at n m b′ a e n₁ m₁ → ParsedRule G need s at n m b a e n₁ m₁
   rebase q r = record {
     tree = r .tree;
     says = r .says;
@@ -90,7 +90,7 @@ module _ {s : List ℕ} {G : ℕ → ParseResult} {More : ℕ → ParseResult �
       go (suc (suc f)) h = L .starts (suc f) ∙ ap (More (suc f)) (not (suc f) (omega arith)) ∙ L .fails f x
 
   -- the first operand was read
-  pub begin : {need need′ n m : ℕ} {b a : Arrays} {e n₁ m₁ : ℕ} → (n ≤ length (b .tags)) × (m ≤ length (b .tags)) → Long (length (b .tags)) b → Long (length (a .tags)) a → (3 * left s at + 1 ≤ need) × (need + 1 ≤ need′) → Read (λ (f : ℕ). Op f at) need s at n m b a e n₁ m₁ → Sofar G More need′ s at n m (length (a .tags)) a a e n₁ m₁
+  pub begin : {need need′ n m : ℕ} {b a : Arrays} {e n₁ m₁ : ℕ} → (n ≤ length (b .tags)) × (m ≤ length (b .tags)) → Long (length (b .tags)) b → Long (length (a .tags)) a → (3 * left s at + 1 ≤ need) × (need + 1 ≤ need′) → ParsedRule (λ (f : ℕ). Op f at) need s at n m b a e n₁ m₁ → Sofar G More need′ s at n m (length (a .tags)) a a e n₁ m₁
   begin {need} {need′} {n} {m} {b} {a} {e} {n₁} {m₁} fits lb la enough r = record {
     tree = r .tree;
     says = go;
@@ -109,7 +109,7 @@ module _ {s : List ℕ} {G : ℕ → ParseResult} {More : ℕ → ParseResult �
       go (suc g) h = (g, omega (arith, r .fewer), L .starts g ∙ ap (More g) (r .says g (omega arith)))
 
   -- no sign follows
-  pub stop : {need n m cap : ℕ} {b a : Arrays} {e n₁ m₁ : ℕ} → after sign (tokensFrom s e) ≡ missing → Sofar G More need s at n m cap b a e n₁ m₁ → Read G need s at n m b a e n₁ m₁
+  pub stop : {need n m cap : ℕ} {b a : Arrays} {e n₁ m₁ : ℕ} → after sign (tokensFrom s e) ≡ missing → Sofar G More need s at n m cap b a e n₁ m₁ → ParsedRule G need s at n m b a e n₁ m₁
   stop {need} {n} {m} {cap} {b} {a} {e} not l = record {
     tree = l .tree;
     says = λ f h. (l .says f h .2) ∙ done (l .says f h .0) (l .says f h .1);
@@ -141,7 +141,7 @@ module _ {s : List ℕ} {G : ℕ → ParseResult} {More : ℕ → ParseResult �
     pub turn : {need need₂ n m cap : ℕ} {b a a₂ a₃ : Arrays} {n₁ m₁ k e₂ n₂ m₂ : ℕ} → e < y → n ≤ cap → Long cap b → Sofar G More need s at n m cap b a e n₁ m₁
         → (k ≡ keepIf (eqb (tagKind (getD (a .tags) (n₁ - 1) 0)) (joinKind j)) n₁) × ((k ≤ n₁) × (n₁ ≤ k + 1))
         → need₂ ≤ 3 * left s y + 2
-        → Read (λ (f : ℕ). Op f y) need₂ s y k m₁ a a₂ e₂ n₂ m₂
+        → ParsedRule (λ (f : ℕ). Op f y) need₂ s y k m₁ a a₂ e₂ n₂ m₂
         → Long cap a₂ → n₂ < cap → Joined j n n₂ (a₂ .tags) (a₂ .args) (a₃ .tags) (a₃ .args) → a₃ .names ≡ a₂ .names
         → Sofar G More need s at n m cap b a₃ e₂ (n₂ + 1) m₂
     turn {need} {need₂} {n} {m} {cap} {b} {a} {a₂} {a₃} {n₁} {m₁} {k} {e₂} {n₂} {m₂} ey fits lb l keeps enough r la lt p p₃ = record {
@@ -204,7 +204,7 @@ module _ (s : List ℕ) (d at : ℕ) where
   -- a leaf's node was written, and its name if it has one
   pub leaf-read : (l : Leaf) {e n m : ℕ} {b a : Arrays} {r : ParseEnd} → primaryStart s d (tokensFrom s at) ≡ aLeaf l (tokensFrom s e)
       → (at < e) × (e ≤ length s) × (left s e < left s at) → length (leafName l) + at ≤ e → Written l e n m b a r
-      → Parsed (λ (f : ℕ). primaryIn f s d (tokensFrom s at)) (3 * left s at + 1) s at n m b a r
+      → ParseAnswer (λ (f : ℕ). primaryIn f s d (tokensFrom s at)) (3 * left s at + 1) s at n m b a r
   leaf-read l q h short w =
       gave-done (w .reached) record {
         tree = leaf l;
@@ -228,14 +228,14 @@ module _ (s : List ℕ) (d at : ℕ) where
     pub inner-refused : {x : Refusal} → ((f : ℕ) → 3 * left s e₀ + 3 ≤ f → orIn f s (d + 1) (tokensFrom s e₀) ≡ bad x) → Says (bad x)
     inner-refused {x} inner = grouped (bad x) inner
 
-    module _ {n m : ℕ} {b a : Arrays} {e n₁ m₁ : ℕ} (r : Read (λ (f : ℕ). orIn f s (d + 1) (tokensFrom s e₀)) (3 * left s e₀ + 3) s e₀ n m b a e n₁ m₁) where
+    module _ {n m : ℕ} {b a : Arrays} {e n₁ m₁ : ℕ} (r : ParsedRule (λ (f : ℕ). orIn f s (d + 1) (tokensFrom s e₀)) (3 * left s e₀ + 3) s e₀ n m b a e n₁ m₁) where
       pub unclosed : {p : ℕ} → after closeBracket (tokensFrom s e) ≡ missing → firstPlace (tokensFrom s e) ≡ p → Says (bad (refusal bracketExpected p))
       unclosed not pl f le =
           grouped (got (r .tree) (tokensFrom s e)) (r .says) f le
           ∙ ap (λ (x : Rest). onRest x (λ us. got (r .tree) us) (bad (refusal bracketExpected (firstPlace (tokensFrom s e))))) not
           ∙ ap (λ (x : ℕ). bad (refusal bracketExpected x)) pl
 
-      pub closed : {y : ℕ} → after closeBracket (tokensFrom s e) ≡ rest (tokensFrom s y) → (e < y) × (y ≤ length s) × (left s y < left s e) → Read (λ (f : ℕ). primaryIn f s d (tokensFrom s at)) (3 * left s at + 1) s at n m b a y n₁ m₁
+      pub closed : {y : ℕ} → after closeBracket (tokensFrom s e) ≡ rest (tokensFrom s y) → (e < y) × (y ≤ length s) × (left s y < left s e) → ParsedRule (λ (f : ℕ). primaryIn f s d (tokensFrom s at)) (3 * left s at + 1) s at n m b a y n₁ m₁
       closed shut lt = record {
         tree = r .tree;
         says = λ f le.
@@ -300,7 +300,7 @@ module _ (s : List ℕ) (d at : ℕ) (j : Join) where
         go (suc g) h = ap (listMore (suc g) s d j (l .rules)) (not (suc g) h)
 
     -- an item was read, up to e₂
-    module _ {a₂ : Arrays} {e₂ n₂ m₂ : ℕ} (r : Read (λ (f : ℕ). orIn f s (d + 1) (tokensFrom s e)) (3 * left s e + 3) s e n₁ m₁ a a₂ e₂ n₂ m₂) where
+    module _ {a₂ : Arrays} {e₂ n₂ m₂ : ℕ} (r : ParsedRule (λ (f : ℕ). orIn f s (d + 1) (tokensFrom s e)) (3 * left s e + 3) s e n₁ m₁ a a₂ e₂ n₂ m₂) where
       after-item : (f : ℕ) → 3 * left s at + 1 ≤ f → (g : ℕ) × (3 * left s e + 2 ≤ g) × (primaryIn f s d (tokensFrom s at) ≡ listMore (suc g) s d j (l .rules) (got (r .tree) (tokensFrom s e₂)))
       after-item f le = let v = go (l .says f le .0) (l .says f le .1) in (v .0, v .1, l .says f le .2 ∙ v .2)
         where
@@ -334,7 +334,7 @@ module _ (s : List ℕ) (d at : ℕ) (j : Join) where
 
       pub list-stop : {a₃ : Arrays} {y : ℕ} → after comma (tokensFrom s e₂) ≡ missing → after closeBracket (tokensFrom s e₂) ≡ rest (tokensFrom s y) → (e₂ < y) × (y ≤ length s) × (left s y < left s e₂) → Long cap a₂ → n₂ < cap
           → Joined j n n₂ (a₂ .tags) (a₂ .args) (a₃ .tags) (a₃ .args) → a₃ .names ≡ a₂ .names
-          → Read (λ (f : ℕ). primaryIn f s d (tokensFrom s at)) (3 * left s at + 1) s at n m b a₃ y (n₂ + 1) m₂
+          → ParsedRule (λ (f : ℕ). primaryIn f s d (tokensFrom s at)) (3 * left s at + 1) s at n m b a₃ y (n₂ + 1) m₂
       unfolding listMore tags args names
       list-stop c o w la lt p p₃ =
           let rs : Rules = l .rules in

@@ -52,7 +52,7 @@ pub record Holds (b a : Arrays) (n m n₁ m₁ : ℕ) (T A N : List ℕ) : Type 
   pub more-names : m₁ ≡ m + length N
 
 -- after it: G, with enough fuel, reads a rule and leaves the tokens from e on, and the rule's nodes come after the first n
-pub record Read (G : ℕ → ParseResult) (need : ℕ) (s : List ℕ) (at n m : ℕ) (b a : Arrays) (e n₁ m₁ : ℕ) : Type 0 where
+pub record ParsedRule (G : ℕ → ParseResult) (need : ℕ) (s : List ℕ) (at n m : ℕ) (b a : Arrays) (e n₁ m₁ : ℕ) : Type 0 where
   pub tree : Rule
   pub says : (f : ℕ) → need ≤ f → G f ≡ got tree (tokensFrom s e)
   pub on : at < e
@@ -64,13 +64,13 @@ pub record Read (G : ℕ → ParseResult) (need : ℕ) (s : List ℕ) (at n m : 
   pub holds : Holds b a n m n₁ m₁ (image.tags tree) (image.args tree m) (image.names tree)
 
 -- either case of an answer
-pub record Parsed (G : ℕ → ParseResult) (need : ℕ) (s : List ℕ) (at n m : ℕ) (b a : Arrays) (r : ParseEnd) : Type 0 where
-  pub done : (e n₁ m₁ : ℕ) → r ≡ Done e n₁ m₁ → Read G need s at n m b a e n₁ m₁
+pub record ParseAnswer (G : ℕ → ParseResult) (need : ℕ) (s : List ℕ) (at n m : ℕ) (b a : Arrays) (r : ParseEnd) : Type 0 where
+  pub done : (e n₁ m₁ : ℕ) → r ≡ Done e n₁ m₁ → ParsedRule G need s at n m b a e n₁ m₁
   pub refused : (x : Refusal) → r ≡ Refused x → (f : ℕ) → need ≤ f → G f ≡ bad x
 
 -- of the text from a position on, by one of the grammar's functions and its level: three calls for each token left
 abbrev pub ParsedBy : (ℕ → List ℕ → ℕ → List Token → ParseResult) → ℕ → List ℕ → ℕ → ℕ → ℕ → ℕ → Arrays → Arrays → ParseEnd → Type 0
-ParsedBy G level s depth at n m b a r = Parsed (λ (f : ℕ). G f s depth (tokensFrom s at)) (3 * left s at + level) s at n m b a r
+ParsedBy G level s depth at n m b a r = ParseAnswer (λ (f : ℕ). G f s depth (tokensFrom s at)) (3 * left s at + level) s at n m b a r
 
 -- ---- what the functions that write nodes ask and promise
 

@@ -18,7 +18,7 @@ use Rattle.store_args.specs.declared.Fault.{Fault}
 use Rattle.store_args.specs.declared.Fault.the-variants.{NoColon, NoMode, LongName, ForeignName}
 use Rattle.store_args.specs.declared.Made.{Made}
 use Rattle.store_args.specs.declared.Made.the-variants.{Table}
-use Rattle.store_args.specs.Arguments.{stores, wrongAt, split, storesIn}
+use Rattle.store_args.specs.Arguments.{stores, wrongAt, argumentsIn, storesIn}
 use Rattle.store_args.proofs.Laws.ArgumentsLaws.{stores-fit, stores-many}
 use Rattle.store_args.specs.Inner.Filling.{MadeOf}
 use Rattle.page.specs.Page.{faultText, argumentLine, judgedText, reportOf, pageOf}
@@ -39,7 +39,7 @@ pub record Given (args buffer : List ℕ) (n : ℕ) : Type 0 where
   pub laid : TableInBounds (take n buffer)
   pub small : length (take n buffer) ≤ 16_452
 
-pub given : {args buffer : List ℕ} {r : Made} {n : ℕ} → length (split args) ≤ 64 → MadeOf (storesIn args) buffer r → r ≡ Table n → Given args buffer n
+pub given : {args buffer : List ℕ} {r : Made} {n : ℕ} → length (argumentsIn args) ≤ 64 → MadeOf (storesIn args) buffer r → r ≡ Table n → Given args buffer n
 given {args} {buffer} {r} {n} few m e =
     let (l, (es, (q, b))) = m .made n e in
     let fit = stores-fit args es q in
@@ -60,15 +60,15 @@ module _ (text args page : List ℕ) where
   page-short h = rw (lt-ltb (length page) 32_768 h)
 
   module _ (room : 32_768 ≤ length page) where
-    pub page-many : 64 < length (split args) → bytes "more than 64 stores are given" ++ lineEnd ≡ pageOf text args page
+    pub page-many : 64 < length (argumentsIn args) → bytes "more than 64 stores are given" ++ lineEnd ≡ pageOf text args page
     unfolding reportOf
-    page-many h = rw (le-ltb (length page) 32_768 room, lt-ltb 64 (length (split args)) h)
+    page-many h = rw (le-ltb (length page) 32_768 room, lt-ltb 64 (length (argumentsIn args)) h)
 
-    module _ (few : length (split args) ≤ 64) where
+    module _ (few : length (argumentsIn args) ≤ 64) where
       pub page-wrong : {i : ℕ} {f : Fault} → storesIn args ≡ wrongAt i f → argumentLine i f ≡ pageOf text args page
       unfolding reportOf
-      page-wrong e = rw (le-ltb (length page) 32_768 room, le-ltb 64 (length (split args)) few, e)
+      page-wrong e = rw (le-ltb (length page) 32_768 room, le-ltb 64 (length (argumentsIn args)) few, e)
 
       pub page-judged : {buffer : List ℕ} {n : ℕ} {v : Verdict} → (g : Given args buffer n) → v ≡ judgeOf text (take n buffer) → verdictText text (entriesIn (take n buffer)) v ≡ pageOf text args page
       unfolding reportOf judgedText
-      page-judged g e = rw (le-ltb (length page) 32_768 room, le-ltb 64 (length (split args)) few, g .are, e, g .back, g .bytes)
+      page-judged g e = rw (le-ltb (length page) 32_768 room, le-ltb 64 (length (argumentsIn args)) few, g .are, e, g .back, g .bytes)

@@ -3,7 +3,7 @@ use mathlib.Core.List.{append-assoc}
 use Prim.Native.Nat.{_≤_}
 use native.Mathlib.Omega.{arith}
 use lib.ListN.{length}
-use Rattle.slices.proofs.Laws.WrittenLaws.{put-behind}
+use Rattle.slices.proofs.Laws.WrittenLaws.{written-at-after}
 use Rattle.decimal.proofs.Laws.DigitsLaws.{digits-short}
 use Rattle.page.proofs.Laws.PageLaws.{fault-short}
 use borrow.Author.Needs.{needs}
@@ -27,7 +27,7 @@ returns c =
     let e₂ = e₃ .before .before .before .before .before in
     let e₁ = e₂ .before .before .before .before in
     let h : 0 ≤ length (e₁ .before .before .before .before .args .page .now) = omega arith in
-    simp append-assoc at (put-behind h (put-behind h (put-behind h (put-behind h (e₁ .append .ensures) (e₂ .append-digits .ensures)) (e₃ .append2 .ensures)) (e₄ .append-fault .ensures)) (e₅ .append3 .ensures))
+    simp append-assoc at (written-at-after h (written-at-after h (written-at-after h (written-at-after h (e₁ .append .ensures) (e₂ .append-digits .ensures)) (e₃ .append2 .ensures)) (e₄ .append-fault .ensures)) (e₅ .append3 .ensures))
 
 pub append-argument-spec : {M : Type 1} → statement M
 append-argument-spec =

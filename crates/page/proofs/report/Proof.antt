@@ -3,15 +3,15 @@
 use mathlib.Core.Path.{sym, _∙_}
 use native.Mathlib.Omega.{arith}
 use lib.Seq.{length-take-le}
-use Rattle.slices.proofs.Laws.WrittenLaws.{put-none}
-use Rattle.details.proofs.Laws.DueLaws.{judged-due}
+use Rattle.slices.proofs.Laws.WrittenLaws.{written-at-none}
+use Rattle.details.proofs.Laws.RefusalBoundsLaws.{judged-bounds}
 use Rattle.page.proofs.Laws.PageLaws.{Given, given, page-short, page-many, page-wrong, page-judged}
 use borrow.Author.Needs.{needs}
 use Rattle.page.proofs.report.Statement.{statement}
 use Rattle.page.proofs.report.Tie as tie
 
 returns : tie.Need-returns
-returns c = rw (← page-short _ _ _ (c .if1 .taken)) (put-none _ 0)
+returns c = rw (← page-short _ _ _ (c .if1 .taken)) (written-at-none _ 0)
 
 returns-2 : tie.Need-returns-2
 returns-2 c =
@@ -35,7 +35,7 @@ slice-aggregate-stores c = sym (length-take-le _ _ (the-table (c .before) .withi
 append-judged-requires : tie.Need-append-judged-requires
 append-judged-requires c κs =
     let g = the-table (c .before .before .before) in
-    record { laid = g .laid; small = g .small; room = omega (arith, c .before .before .before .before .before .before .before .before .before .before .before .if1 .left); due = λ f e. judged-due _ _ f (sym (c .judge .ensures .0) ∙ e) }
+    record { laid = g .laid; small = g .small; room = omega (arith, c .before .before .before .before .before .before .before .before .before .before .before .if1 .left); due = λ f e. judged-bounds _ _ f (sym (c .judge .ensures .0) ∙ e) }
 
 returns-3 : tie.Need-returns-3
 returns-3 c =

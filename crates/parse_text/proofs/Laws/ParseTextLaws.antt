@@ -77,7 +77,7 @@ module _ (s : List ℕ) where
   end-onward t Off more = refl
   end-onward t (To n) more = refl
 
-  module _ {b a : Arrays} {e n m : ℕ} (r : parses.Read (λ (f : ℕ). orIn f s 0 (tokensFrom s 0)) (3 * left s 0 + 3) s 0 0 0 b a e n m) where
+  module _ {b a : Arrays} {e n m : ℕ} (r : parses.ParsedRule (λ (f : ℕ). orIn f s 0 (tokensFrom s 0)) (3 * left s 0 + 3) s 0 0 0 b a e n m) where
     ended-at : {t : Token} → tokenAt s e ≡ t → parseOf s ≡ cond (eqb (tokenKind t) 0) (rule (r .tree)) (refused (refusal trailingToken (placeOf t)))
     ended-at {t} h =
         parsed-as (got (r .tree) (tokensFrom s e)) (r .says)

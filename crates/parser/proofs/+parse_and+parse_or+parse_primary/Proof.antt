@@ -12,7 +12,7 @@ use Rattle.rules.specs.Rule.{all, any}
 use Rattle.image.specs.Encode.{joinKind}
 use Rattle.grammar.specs.Grammar.{ParseResult, orIn, orMore, andIn, andMore}
 use Rattle.classes.specs.Class.{ampersand, bar}
-use Rattle.grammar.specs.Inner.Starts.{joinOf, headNext, left}
+use Rattle.grammar.specs.Inner.Starts.{joinOf, startNext, left}
 use Rattle.grammar.proofs.Laws.StartLaws.{head-is, head-ahead}
 use Rattle.nodes.specs.Inner.Parses.{arrays}
 use Rattle.nodes.proofs.Laws.ParseLaws.{and-level, or-level}
@@ -303,14 +303,14 @@ parse-primary-parse-or-requires t c κs =
     let case = c .before .before .before .before in
     let head = case .before .before in
     let entry = head .before .before .before .before .before in
-    (omega (arith, entry .pre .0, head-ahead (entry .args .at) (head .primary-start-at .ensures) (ap headNext (case .next .given .1))), group-before (entry .pre .1) (head .primary-start-at .ensures) (case .next .given .1))
+    (omega (arith, entry .pre .0, head-ahead (entry .args .at) (head .primary-start-at .ensures) (ap startNext (case .next .given .1))), group-before (entry .pre .1) (head .primary-start-at .ensures) (case .next .given .1))
 
 parse-primary-loop-holds : (t : ℕ) → parse-primary-lts.Need-loop-holds (parse-primary-calls t) (parse-primary-at t) parse-primary.Post parse-primary-Inv-loop parse-primary-μ-loop
 parse-primary-loop-holds t c =
     let case = c .before .before in
     let head = case .before .before in
     let entry = head .before .before .before .before .before in
-    list-first _ _ _ _ (head-is (entry .args .at) (head .primary-start-at .ensures) (case .combinator .given .1)) (head-ahead (entry .args .at) (head .primary-start-at .ensures) (ap headNext (case .combinator .given .1))) (entry .pre .1 .long) (c .first-argument .ensures)
+    list-first _ _ _ _ (head-is (entry .args .at) (head .primary-start-at .ensures) (case .combinator .given .1)) (head-ahead (entry .args .at) (head .primary-start-at .ensures) (ap startNext (case .combinator .given .1))) (entry .pre .1 .long) (c .first-argument .ensures)
 
 parse-primary-add-parse-or-2 : (t : ℕ) → parse-primary-lts.Need-add-parse-or-2 (parse-primary-calls t) (parse-primary-at t) parse-primary.Post parse-primary-Inv-loop parse-primary-μ-loop
 parse-primary-add-parse-or-2 t c =

@@ -14,10 +14,10 @@ use Rattle.rules.specs.Rule.{Join}
 use Rattle.grammar.specs.Grammar.{bad, after, missing, aGroup, aList, primaryStart, orIn, primaryIn}
 use Rattle.grammar.specs.Inner.Starts.{left}
 use Rattle.grammar.proofs.Laws.TokenListLaws.{first-place}
-use Rattle.grammar.proofs.Laws.BehindLaws.{test-on, test-off}
+use Rattle.grammar.proofs.Laws.SignTestLaws.{test-on, test-off}
 use Rattle.nodes.specs.declared.ParseEnd.{ParseEnd}
 use Rattle.nodes.specs.declared.ParseEnd.the-variants.{Done, Refused}
-use Rattle.nodes.specs.Inner.Parses.{Arrays, Long, Before, Read, Parsed, Joined}
+use Rattle.nodes.specs.Inner.Parses.{Arrays, Long, Before, ParsedRule, ParseAnswer, Joined}
 use Rattle.nodes.proofs.Laws.ArrayLaws.{still}
 use Rattle.nodes.proofs.Laws.ParseLaws.{gave-done, gave-refused, unclosed, closed, Listing, list-empty, list-begin, item-refused, list-unclosed, list-turn, list-stop}
 use Rattle.endings.specs.Inner.Endings.{closedBy, groupEnd, firstBy, firstArgument, argumentBy, nextArgument, ListRoom, ListEnd}
@@ -27,10 +27,10 @@ use Rattle.parser.proofs.Laws.OperandLaws.{Lengths}
 
 -- ---- a group
 module _ (s : List ℕ) (d at : ℕ) {e₀ : ℕ} (q : primaryStart s d (tokensFrom s at) ≡ aGroup (tokensFrom s e₀)) (h : (at < e₀) × (e₀ ≤ length s) × (left s e₀ < left s at)) where
-  pub group-read : {n m : ℕ} {b a : Arrays} {e n₁ m₁ : ℕ} {v : ParseEnd} → Read (λ (f : ℕ). orIn f s (d + 1) (tokensFrom s e₀)) (3 * left s e₀ + 3) s e₀ n m b a e n₁ m₁ → v ≡ groupEnd s e n₁ m₁ → Parsed (λ (f : ℕ). primaryIn f s d (tokensFrom s at)) (3 * left s at + 1) s at n m b a v
+  pub group-read : {n m : ℕ} {b a : Arrays} {e n₁ m₁ : ℕ} {v : ParseEnd} → ParsedRule (λ (f : ℕ). orIn f s (d + 1) (tokensFrom s e₀)) (3 * left s e₀ + 3) s e₀ n m b a e n₁ m₁ → v ≡ groupEnd s e n₁ m₁ → ParseAnswer (λ (f : ℕ). primaryIn f s d (tokensFrom s at)) (3 * left s at + 1) s at n m b a v
   group-read {n} {m} {b} {a} {e} {n₁} {m₁} {v} r w = go (nextOfClass closeBracket (tokenAt s e)) refl w
     where
-      go : (x : Next) → x ≡ nextOfClass closeBracket (tokenAt s e) → v ≡ closedBy x (placeOf (tokenAt s e)) n₁ m₁ → Parsed (λ (f : ℕ). primaryIn f s d (tokensFrom s at)) (3 * left s at + 1) s at n m b a v
+      go : (x : Next) → x ≡ nextOfClass closeBracket (tokenAt s e) → v ≡ closedBy x (placeOf (tokenAt s e)) n₁ m₁ → ParseAnswer (λ (f : ℕ). primaryIn f s d (tokensFrom s at)) (3 * left s at + 1) s at n m b a v
       go (To y) p g = let i = test-on s e closeBracket p refl in gave-done g (closed s d at q h r (i .sign) (i .bounds))
       go Off p g = gave-refused g (unclosed s d at q h r (test-off s e closeBracket p (omega arith) (omega arith) refl) (first-place s e refl))
 
@@ -44,7 +44,7 @@ argumentsLeft s (End r) = 0
 pub record Complete (s : List ℕ) (d at : ℕ) (j : Join) (n m cap : ℕ) (b a : Arrays) (y n₁ m₁ : ℕ) : Type 0 where
   pub some : n < n₁
   pub room : n₁ < cap
-  pub written : {a₁ : Arrays} → Joined j n n₁ (a .tags) (a .args) (a₁ .tags) (a₁ .args) → a₁ .names ≡ a .names → Read (λ (f : ℕ). primaryIn f s d (tokensFrom s at)) (3 * left s at + 1) s at n m b a₁ y (n₁ + 1) m₁
+  pub written : {a₁ : Arrays} → Joined j n n₁ (a .tags) (a .args) (a₁ .tags) (a₁ .args) → a₁ .names ≡ a .names → ParsedRule (λ (f : ℕ). primaryIn f s d (tokensFrom s at)) (3 * left s at + 1) s at n m b a₁ y (n₁ + 1) m₁
 
 -- what the loop keeps
 pub record Arguments (s : List ℕ) (d at : ℕ) (j : Join) (n m cap : ℕ) (b a : Arrays) (v : Argument) : Type 0 where
@@ -88,7 +88,7 @@ module _ {s : List ℕ} {d at : ℕ} {j : Join} {n m cap : ℕ} {b a : Arrays} {
 
 -- what reading an argument at e promises
 abbrev Item : List ℕ → ℕ → (e n m : ℕ) → (b a : Arrays) → ParseEnd → Type 0
-Item s d e n m b a r = Parsed (λ (f : ℕ). orIn f s (d + 1) (tokensFrom s e)) (3 * left s e + 3) s e n m b a r
+Item s d e n m b a r = ParseAnswer (λ (f : ℕ). orIn f s (d + 1) (tokensFrom s e)) (3 * left s e + 3) s e n m b a r
 
 module _ (s : List ℕ) (d at : ℕ) (j : Join) where
   -- before the first turn
@@ -106,7 +106,7 @@ module _ (s : List ℕ) (d at : ℕ) (j : Join) where
         let c = i .done e k q (h ∙ ap End is) in
         record { some = c .some; tags = omega (arith, c .room, i .long); args = omega (arith, c .room, i .long); few = omega (arith, i .long) }
 
-    pub list-end : (all : ParseEnd) {r : ParseEnd} {a₁ : Arrays} → v ≡ End all → ListEnd j n (a .tags) (a .args) (a₁ .tags) (a₁ .args) all r → a₁ .names ≡ a .names → Parsed (λ (f : ℕ). primaryIn f s d (tokensFrom s at)) (3 * left s at + 1) s at n m b a₁ r
+    pub list-end : (all : ParseEnd) {r : ParseEnd} {a₁ : Arrays} → v ≡ End all → ListEnd j n (a .tags) (a .args) (a₁ .tags) (a₁ .args) all r → a₁ .names ≡ a .names → ParseAnswer (λ (f : ℕ). primaryIn f s d (tokensFrom s at)) (3 * left s at + 1) s at n m b a₁ r
     list-end (Done e k q) h w names = let u = w .done e k q refl in gave-done (u .0) (i .done e k q h .written (u .1) names)
     list-end (Refused x) h w names = gave-refused (w .refused x refl) (i .refused x h)
 
@@ -146,7 +146,7 @@ module _ (s : List ℕ) (d at : ℕ) (j : Join) where
           l : Listing s d at j n m cap b a e n₁ m₁
           l = i .next e n₁ m₁ is
 
-          r : Read (λ (f : ℕ). orIn f s (d + 1) (tokensFrom s e)) (3 * left s e + 3) s e n₁ m₁ a a₂ e₂ n₂ m₂
+          r : ParsedRule (λ (f : ℕ). orIn f s (d + 1) (tokensFrom s e)) (3 * left s e + 3) s e n₁ m₁ a a₂ e₂ n₂ m₂
           r = p .done e₂ n₂ m₂ refl
 
           la : Long cap a₂

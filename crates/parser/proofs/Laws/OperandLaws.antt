@@ -18,10 +18,10 @@ use Rattle.image.specs.Encode.{joinKind}
 use Rattle.grammar.specs.Grammar.{ParseResult, missing, after}
 use Rattle.grammar.specs.Inner.Starts.{left}
 use Rattle.grammar.proofs.Laws.TokenListLaws.{Signed}
-use Rattle.grammar.proofs.Laws.BehindLaws.{test-on, test-off}
+use Rattle.grammar.proofs.Laws.SignTestLaws.{test-on, test-off}
 use Rattle.nodes.specs.declared.ParseEnd.{ParseEnd}
 use Rattle.nodes.specs.declared.ParseEnd.the-variants.{Done, Refused}
-use Rattle.nodes.specs.Inner.Parses.{Arrays, Before, Read, Parsed, JoinRoom, Joined, keepIf}
+use Rattle.nodes.specs.Inner.Parses.{Arrays, Before, ParsedRule, ParseAnswer, JoinRoom, Joined, keepIf}
 use Rattle.nodes.proofs.Laws.ArrayLaws.{front, still, long-after}
 use Rattle.nodes.proofs.Laws.ParseLaws.{gave-done, gave-refused, rebase, Level, Sofar, first-refused, begin, stop, right-refused, turn}
 use Rattle.endings.specs.Inner.Endings.{operandBy, nextOperand}
@@ -88,8 +88,8 @@ pub record Chaining (G : ℕ → ParseResult) (More : ℕ → ParseResult → Pa
 
 module _ {class s : List ℕ} {G : ℕ → ParseResult} {More : ℕ → ParseResult → ParseResult} {Op : ℕ → ℕ → ParseResult} {sign : ℕ} {j : Join} {at d n m need need′ : ℕ} {b : Arrays} (L : Level s G More Op sign j at) (p : Before class s at d n m b) (enough : (3 * left s at + 1 ≤ need) × (need + 1 ≤ need′)) where
   -- after the first operand
-  module _ {b₁ : Arrays} {r : ParseEnd} (q : Parsed (λ (f : ℕ). Op f at) need s at n m b b₁ r) where
-    pub chain-refused : {x : _} → r ≡ Refused x → Parsed G need′ s at n m b b₁ r
+  module _ {b₁ : Arrays} {r : ParseEnd} (q : ParseAnswer (λ (f : ℕ). Op f at) need s at n m b b₁ r) where
+    pub chain-refused : {x : _} → r ≡ Refused x → ParseAnswer G need′ s at n m b b₁ r
     chain-refused h = gave-refused h (first-refused L (omega arith) (q .refused _ h))
 
     module _ (same : Lengths b₁ b) {e n₁ m₁ : ℕ} (h : r ≡ Done e n₁ m₁) where
@@ -99,7 +99,7 @@ module _ {class s : List ℕ} {G : ℕ → ParseResult} {More : ℕ → ParseRes
         sofar = begin L (omega (arith, p)) (p .long) (before-after p same .long) enough (q .done _ _ _ h);
       }
 
-      pub chain-stop : {a : Arrays} {e₂ n₂ m₂ : ℕ} {v : ParseEnd} → Chaining G More need′ class s at d n m b₁ a e₂ n₂ m₂ → (openBracket ≤ sign) × (sign ≤ bar) → {u : Operand} → u ≡ nextOperand s e₂ sign (a .tags) n₂ (joinKind j) → u ≡ None → v ≡ Done e₂ n₂ m₂ → Parsed G need′ s at n m b a v
+      pub chain-stop : {a : Arrays} {e₂ n₂ m₂ : ℕ} {v : ParseEnd} → Chaining G More need′ class s at d n m b₁ a e₂ n₂ m₂ → (openBracket ≤ sign) × (sign ≤ bar) → {u : Operand} → u ≡ nextOperand s e₂ sign (a .tags) n₂ (joinKind j) → u ≡ None → v ≡ Done e₂ n₂ m₂ → ParseAnswer G need′ s at n m b a v
       chain-stop {a} {e₂} {n₂} c lies o none is =
           let fits : (n ≤ length (b .tags)) × (n ≤ length (b .args)) × (m ≤ length (b .names)) = omega (arith, p) in
           gave-done is (rebase (front (q .done _ _ _ h .holds) (fits .0) (fits .1) (fits .2)) (stop L (follows-not s e₂ sign (a .tags) n₂ (joinKind j) o (lies .0) (lies .1) none) (c .sofar)))
@@ -129,7 +129,7 @@ module _ {class s : List ℕ} {G : ℕ → ParseResult} {More : ℕ → ParseRes
         }
 
     -- the operand was read
-    module _ {Op : ℕ → ParseResult} {need₂ : ℕ} {a₂ : Arrays} {e₂ n₂ m₂ : ℕ} (r : Read Op need₂ s y k m₁ a a₂ e₂ n₂ m₂) (same : Lengths a₂ a) where
+    module _ {Op : ℕ → ParseResult} {need₂ : ℕ} {a₂ : Arrays} {e₂ n₂ m₂ : ℕ} (r : ParsedRule Op need₂ s y k m₁ a a₂ e₂ n₂ m₂) (same : Lengths a₂ a) where
       pub right-room : JoinRoom n n₂ (a₂ .tags) (a₂ .args)
       right-room =
           let p = c .before in
@@ -146,8 +146,8 @@ module _ {class s : List ℕ} {G : ℕ → ParseResult} {More : ℕ → ParseRes
       pub right-fewer : left s e₂ < left s e
       right-fewer = omega (arith, r .fewer, f .signed .bounds)
 
-module _ {class s : List ℕ} {G : ℕ → ParseResult} {More : ℕ → ParseResult → ParseResult} {Op : ℕ → ℕ → ParseResult} {sign : ℕ} {j : Join} {at d n m need : ℕ} {b a : Arrays} {e n₁ m₁ : ℕ} (L : Level s G More Op sign j at) (c : Chaining G More need class s at d n m b a e n₁ m₁) {y k : ℕ} (f : Follows s e sign (a .tags) n₁ (joinKind j) y k) {need₂ : ℕ} (enough : need₂ ≤ 3 * left s y + 2) {a₂ : Arrays} {r : ParseEnd} (q : Parsed (λ (i : ℕ). Op i y) need₂ s y k m₁ a a₂ r) where
-  pub right-fails : {b₀ a₀ : Arrays} {x : _} → r ≡ Refused x → Parsed G need s at n m b₀ a₀ r
+module _ {class s : List ℕ} {G : ℕ → ParseResult} {More : ℕ → ParseResult → ParseResult} {Op : ℕ → ℕ → ParseResult} {sign : ℕ} {j : Join} {at d n m need : ℕ} {b a : Arrays} {e n₁ m₁ : ℕ} (L : Level s G More Op sign j at) (c : Chaining G More need class s at d n m b a e n₁ m₁) {y k : ℕ} (f : Follows s e sign (a .tags) n₁ (joinKind j) y k) {need₂ : ℕ} (enough : need₂ ≤ 3 * left s y + 2) {a₂ : Arrays} {r : ParseEnd} (q : ParseAnswer (λ (i : ℕ). Op i y) need₂ s y k m₁ a a₂ r) where
+  pub right-fails : {b₀ a₀ : Arrays} {x : _} → r ≡ Refused x → ParseAnswer G need s at n m b₀ a₀ r
   right-fails h = gave-refused h (right-refused L (f .signed .sign) (f .signed .bounds .2) (c .sofar) enough (q .refused _ h))
 
   pub chain-turn : Lengths a₂ a → {e₂ n₂ m₂ n₃ : ℕ} → r ≡ Done e₂ n₂ m₂ → {a₃ : Arrays} → (n₃ ≡ n₂ + 1) × Joined j n n₂ (a₂ .tags) (a₂ .args) (a₃ .tags) (a₃ .args) → a₃ .names ≡ a₂ .names → Chaining G More need class s at d n m b a₃ e₂ n₃ m₂

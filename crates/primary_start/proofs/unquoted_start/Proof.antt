@@ -8,7 +8,7 @@ use Rattle.slices.specs.Text.{bytes}
 use Rattle.ascii.specs.Letters.{equalIgnoringCase}
 use Rattle.grammar.specs.Grammar.{functionOf, unquotedLeaf}
 use Rattle.classes.specs.Class.{openBracket}
-use Rattle.grammar.proofs.Laws.BehindLaws.{test-off, test-on, test-place}
+use Rattle.grammar.proofs.Laws.SignTestLaws.{test-off, test-on, test-place}
 use Rattle.grammar.proofs.Laws.StartLaws.{begins-name, begins-leaf, begins-refused, begins-within, told, too-deep, not-deep}
 use borrow.Author.Needs.{needs}
 use Rattle.primary_start.proofs.unquoted_start.Statement.{statement}

@@ -14,7 +14,7 @@ use Rattle.image.specs.Layout.{nodeCountIn}
 use Rattle.image.specs.Decode.{cellAt, decode}
 use Rattle.image.specs.Inner.Valid.{isSome}
 use Rattle.image.proofs.Laws.FitLaws.{isSome-true, isSome-false}
-use Rattle.image.specs.Inner.Standing.{EncodedAt}
+use Rattle.image.specs.Inner.EncodedAt.{EncodedAt}
 use Rattle.image.proofs.Laws.InsideLaws.{decode-whole}
 use Rattle.print_text.specs.Print.{textOf}
 use Rattle.print.specs.Printed.{outcome, printInto}

@@ -1,66 +1,66 @@
 -- `print_pieces::prepend_after` meets its contract: each kind has its own line, and for the others nothing is written. Assumes nothing.
 use native.Mathlib.Omega.{arith}
 use borrow.Author.Needs.{needs}
-use Rattle.print_text.specs.Print.{behind}
-use Rattle.print_text.specs.Inner.Pieces.{behindOf}
-use Rattle.slices.proofs.Laws.WrittenLaws.{put-none}
-use Rattle.print_text.proofs.Laws.PiecesLaws.{none-behind}
+use Rattle.print_text.specs.Print.{afterChild}
+use Rattle.print_text.specs.Inner.Pieces.{afterChildOf}
+use Rattle.slices.proofs.Laws.WrittenLaws.{written-at-none}
+use Rattle.print_text.proofs.Laws.PiecesLaws.{after-child-none}
 use Rattle.print_pieces.proofs.prepend_after.Statement.{statement}
 use Rattle.print_pieces.proofs.prepend_after.Tie as tie
 
 prepend-requires : tie.Need-prepend-requires
-unfolding behindOf behind
+unfolding afterChildOf afterChild
 prepend-requires c κs =
     let m = c .before .before in
     (rw (m .before .if1 .taken, m .match .keys1) at (m .before .before .before .pre .0), search needs)
 
 prepend-requires-2 : tie.Need-prepend-requires-2
-unfolding behindOf behind
+unfolding afterChildOf afterChild
 prepend-requires-2 c κs =
     let m = c .before .before in
     (rw (m .before .if1 .left, m .match2 .keys1) at (m .before .before .before .pre .0), search needs)
 
 prepend-requires-3 : tie.Need-prepend-requires-3
-unfolding behindOf behind
+unfolding afterChildOf afterChild
 prepend-requires-3 c κs =
     let m = c .before .before in
     (rw (m .before .if1 .left, m .match2 .keys2) at (m .before .before .before .pre .0), search needs)
 
 prepend-requires-4 : tie.Need-prepend-requires-4
-unfolding behindOf behind
+unfolding afterChildOf afterChild
 prepend-requires-4 c κs =
     let m = c .before .before in
     (rw (m .before .if1 .left, m .match2 .keys3) at (m .before .before .before .pre .0), search needs)
 
 returns : tie.Need-returns
-unfolding behindOf behind
+unfolding afterChildOf afterChild
 returns c =
     let m = c .before .before .before .before .before in
     rw (m .before .if1 .taken, m .match .keys1) (c .before .before .prepend .ensures)
 
 returns-2 : tie.Need-returns-2
-returns-2 c = rw (none-behind (c .before .before .before .args .kind) (λ e. omega arith) (λ h k. c .before .if1 .taken)) (put-none _ _)
+returns-2 c = rw (after-child-none (c .before .before .before .args .kind) (λ e. omega arith) (λ h k. c .before .if1 .taken)) (written-at-none _ _)
 
 returns-3 : tie.Need-returns-3
-unfolding behindOf behind
+unfolding afterChildOf afterChild
 returns-3 c =
     let m = c .before .before .before .before .before in
     rw (m .before .if1 .left, m .match2 .keys1) (c .before .before .prepend2 .ensures)
 
 returns-4 : tie.Need-returns-4
-unfolding behindOf behind
+unfolding afterChildOf afterChild
 returns-4 c =
     let m = c .before .before .before .before .before in
     rw (m .before .if1 .left, m .match2 .keys2) (c .before .before .prepend3 .ensures)
 
 returns-5 : tie.Need-returns-5
-unfolding behindOf behind
+unfolding afterChildOf afterChild
 returns-5 c =
     let m = c .before .before .before .before .before in
     rw (m .before .if1 .left, m .match2 .keys3) (c .before .before .prepend4 .ensures)
 
 returns-6 : tie.Need-returns-6
-returns-6 c = rw (none-behind (c .before .before .before .args .kind) {last = c .before .before .before .args .last} (λ e. omega arith) (λ h k. absurd (omega arith))) (put-none _ _)
+returns-6 c = rw (after-child-none (c .before .before .before .args .kind) {last = c .before .before .before .args .last} (λ e. omega arith) (λ h k. absurd (omega arith))) (written-at-none _ _)
 
 pub prepend-after-spec : {M : Type 1} → statement M
 prepend-after-spec =

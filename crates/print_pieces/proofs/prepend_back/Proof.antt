@@ -5,7 +5,7 @@ use borrow.Author.Needs.{needs}
 use lib.ListN.{length-append}
 use Rattle.print_text.specs.Print.{bracket}
 use Rattle.print_text.specs.Inner.Pieces.{backOf}
-use Rattle.slices.proofs.Laws.WrittenLaws.{put-before}
+use Rattle.slices.proofs.Laws.WrittenLaws.{written-at-before}
 use Rattle.print_pieces.proofs.prepend_back.Statement.{statement}
 use Rattle.print_pieces.proofs.prepend_back.Tie as tie
 
@@ -26,7 +26,7 @@ returns c =
     let i = c .before .before .before .before .before in
     let s = i .before .before .before .before .before .before .before in
     rw (sym (i .before .is-bracketed .ensures) ∙ i .if1 .taken)
-    (put-before (s .pre .1) (i .before .before .before .before .prepend-after .ensures) (c .before .before .prepend .ensures))
+    (written-at-before (s .pre .1) (i .before .before .before .before .prepend-after .ensures) (c .before .before .prepend .ensures))
 
 returns-2 : tie.Need-returns-2
 unfolding backOf bracket

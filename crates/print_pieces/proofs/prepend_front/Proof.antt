@@ -3,7 +3,7 @@ use mathlib.Core.Path.{sym, _∙_}
 use borrow.Author.Needs.{needs}
 use Rattle.print_text.specs.Print.{bracket}
 use Rattle.print_text.specs.Inner.Pieces.{frontOf}
-use Rattle.slices.proofs.Laws.WrittenLaws.{put-none}
+use Rattle.slices.proofs.Laws.WrittenLaws.{written-at-none}
 use Rattle.print_pieces.proofs.prepend_front.Statement.{statement}
 use Rattle.print_pieces.proofs.prepend_front.Tie as tie
 
@@ -30,7 +30,7 @@ returns c =
 
 returns-2 : tie.Need-returns-2
 unfolding frontOf bracket
-returns-2 c = rw (sym (c .before .is-bracketed .ensures) ∙ c .if1 .left) (put-none _ _)
+returns-2 c = rw (sym (c .before .is-bracketed .ensures) ∙ c .if1 .left) (written-at-none _ _)
 
 pub prepend-front-spec : {M : Type 1} → statement M
 prepend-front-spec = tie.close (tie.spec is-bracketed-requires slice-aggregate-prepend prepend-requires same-length returns returns-2)

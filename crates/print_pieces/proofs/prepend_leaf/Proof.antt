@@ -6,7 +6,7 @@ use Rattle.image.specs.Decode.{meaning}
 use Rattle.image.proofs.Laws.KindLaws.{other-kind}
 use Rattle.print_text.specs.Print.{leafText}
 use Rattle.print_text.specs.Inner.Pieces.{leafTextOf}
-use Rattle.slices.proofs.Laws.WrittenLaws.{put-none, put-before}
+use Rattle.slices.proofs.Laws.WrittenLaws.{written-at-none, written-at-before}
 use Rattle.print_text.proofs.Laws.PiecesLaws.{no-leaf-text}
 use Rattle.print_pieces.proofs.prepend_leaf.Statement.{statement}
 use Rattle.print_pieces.proofs.prepend_leaf.Tie as tie
@@ -69,7 +69,7 @@ returns-2 c =
     let p = d .before .before .before .before in
     let m = p .before .before .before in
     let l = m .before .before .before .pre .2 in
-    rw (m .match .keys2) (put-before l (put-before l (p .prepend2 .ensures) (d .format-duration .ensures)) (c .before .before .prepend3 .ensures))
+    rw (m .match .keys2) (written-at-before l (written-at-before l (p .prepend2 .ensures) (d .format-duration .ensures)) (c .before .before .prepend3 .ensures))
 
 returns-3 : tie.Need-returns-3
 unfolding leafTextOf leafText meaning
@@ -78,12 +78,12 @@ returns-3 c =
     let p = d .before .before .before .before in
     let m = p .before .before .before in
     let l = m .before .before .before .pre .2 in
-    rw (m .match .keys3) (put-before l (put-before l (p .prepend4 .ensures) (d .prepend-digits .ensures)) (c .before .before .prepend5 .ensures))
+    rw (m .match .keys3) (written-at-before l (written-at-before l (p .prepend4 .ensures) (d .prepend-digits .ensures)) (c .before .before .prepend5 .ensures))
 
 returns-4 : tie.Need-returns-4
 returns-4 c =
     let s = c .before .before .before in
-    rw (no-leaf-text (s .args .image .now) (s .args .n) (s .args .kind) (s .args .arg) (other-kind (s .args .kind) (λ q. omega arith) (λ q. omega arith) (λ q. omega arith))) (put-none _ _)
+    rw (no-leaf-text (s .args .image .now) (s .args .n) (s .args .kind) (s .args .arg) (other-kind (s .args .kind) (λ q. omega arith) (λ q. omega arith) (λ q. omega arith))) (written-at-none _ _)
 
 pub prepend-leaf-spec : {M : Type 1} → statement M
 prepend-leaf-spec =

@@ -4,7 +4,7 @@ use borrow.Author.Needs.{needs}
 use lib.ListN.{length-append}
 use Rattle.print_text.specs.Print.{opening}
 use Rattle.print_text.specs.Inner.Pieces.{openingOf}
-use Rattle.slices.proofs.Laws.WrittenLaws.{put-none, put-before}
+use Rattle.slices.proofs.Laws.WrittenLaws.{written-at-none, written-at-before}
 use Rattle.print_text.proofs.Laws.PiecesLaws.{no-opening}
 use Rattle.print_pieces.proofs.prepend_opening.Statement.{statement}
 use Rattle.print_pieces.proofs.prepend_opening.Tie as tie
@@ -33,10 +33,10 @@ returns c =
     let d = c .before .before .before .before .before .before .before in
     let p = d .before .before .before .before in
     let m = p .before .before .before in
-    rw (m .match .keys1) (put-before (m .before .before .pre .1) (put-before (m .before .before .pre .1) (p .prepend .ensures) (d .prepend-digits .ensures)) (c .before .before .prepend2 .ensures))
+    rw (m .match .keys1) (written-at-before (m .before .before .pre .1) (written-at-before (m .before .before .pre .1) (p .prepend .ensures) (d .prepend-digits .ensures)) (c .before .before .prepend2 .ensures))
 
 returns-2 : tie.Need-returns-2
-returns-2 c = rw (no-opening (c .before .before .args .kind) _ (λ e. omega arith)) (put-none _ _)
+returns-2 c = rw (no-opening (c .before .before .args .kind) _ (λ e. omega arith)) (written-at-none _ _)
 
 pub prepend-opening-spec : {M : Type 1} → statement M
 prepend-opening-spec =

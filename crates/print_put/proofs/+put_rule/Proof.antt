@@ -10,12 +10,12 @@ use borrow.Fn.Kinds.{In}
 use borrow.Fn.PlainCycle.{Measures, is, falls, and}
 use Rattle.rules.specs.Rule.{Rule, size}
 use Rattle.image.specs.Decode.{cellAt}
-use Rattle.image.specs.Inner.Standing.{EncodedAt}
+use Rattle.image.specs.Inner.EncodedAt.{EncodedAt}
 use Rattle.image.specs.Inner.Valid.{nodeOf}
 use Rattle.image.proofs.Laws.EncodeLaws.{size-pos}
 use Rattle.image.proofs.Laws.CellLaws.{name-inside}
 use Rattle.slices.specs.Text.{WrittenAt}
-use Rattle.slices.proofs.Laws.WrittenLaws.{put-none, put-before, put-length}
+use Rattle.slices.proofs.Laws.WrittenLaws.{written-at-none, written-at-before, written-at-length}
 use Rattle.print_text.specs.Print.{textOf}
 use Rattle.print_text.proofs.Laws.ChildrenLaws.{Walks, walks-start, Turn, turn, walks-next, walks-done, leaf-text}
 use Rattle.print_text.proofs.Laws.PrependLaws.{pieces-room, child-room, put-start}
@@ -92,7 +92,7 @@ put-rule-returns t c = λ ρ e st.
     rw (← leaf-text _ _ _ _ _ (c .before .before .before .before .before .before .node-at .ensures) (omega (arith, the-node t s)) (sym (c .before .before .before .before .before .is-leaf .ensures) ∙ c .before .before .before .before .if1 .taken) ρ e st) (c .before .before .prepend-leaf .ensures)
 
 put-rule-loop-holds : (t : ℕ) → put-rule-lts.Need-loop-holds (given t) (put-rule-at t) put-rule.Post put-rule-Inv-loop put-rule-μ-loop
-put-rule-loop-holds t c = (omega arith, walks-start _ _ _ _ _ (c .before .before .node-at .ensures) (omega (arith, the-node t (c .before .before .before .before .before))) (sym (c .before .is-leaf .ensures) ∙ c .if1 .left) (put-none _ _))
+put-rule-loop-holds t c = (omega arith, walks-start _ _ _ _ _ (c .before .before .node-at .ensures) (omega (arith, the-node t (c .before .before .before .before .before))) (sym (c .before .is-leaf .ensures) ∙ c .if1 .left) (written-at-none _ _))
 
 put-rule-sub-node-at : (t : ℕ) → put-rule-lts.Need-sub-node-at (given t) (put-rule-at t) put-rule.Post put-rule-Inv-loop put-rule-μ-loop
 put-rule-sub-node-at t c = omega arith
@@ -192,7 +192,7 @@ put-rule-loop-again : (t : ℕ) → put-rule-lts.Need-loop-again (given t) (put-
 put-rule-loop-again t c =
     let long = c .before .before .before .before .before .before .before .before .before .before .before .before .before .before .before .before .before .before .pre .1 .2 in
     let i = c .before .before .before .before .before .before .before .before .before .before .before .before .loop .inv in
-    (omega (arith, i .0), walks-next _ _ _ _ _ (i .1) (i .0) (c .before .before .before .before .before .before .before .before .before .before .before .loop-test .taken) (c .before .before .before .before .before .before .before .before .before .before .node-at2 .ensures) (λ q v e st h. put-before long (put-before long (put-before long h (c .before .before .before .before .before .before .before .before .prepend-back .ensures)) (the-text t (c .before .before .before .before) q e st)) (c .before .before .prepend-front .ensures)))
+    (omega (arith, i .0), walks-next _ _ _ _ _ (i .1) (i .0) (c .before .before .before .before .before .before .before .before .before .before .before .loop-test .taken) (c .before .before .before .before .before .before .before .before .before .before .node-at2 .ensures) (λ q v e st h. written-at-before long (written-at-before long (written-at-before long h (c .before .before .before .before .before .before .before .before .prepend-back .ensures)) (the-text t (c .before .before .before .before) q e st)) (c .before .before .prepend-front .ensures)))
 
 put-rule-prepend-opening-requires : (t : ℕ) → put-rule-lts.Need-prepend-opening-requires (given t) (put-rule-at t) put-rule.Post put-rule-Inv-loop put-rule-μ-loop
 put-rule-prepend-opening-requires t c κs =
@@ -206,12 +206,12 @@ put-rule-same-length-2 t c =
     let s = c .before .before .before .before .before .before .before .before .before .before .before in
     let h = s .pre .1 .0 .here in
     let (v, e, x) = walks-done _ _ _ _ _ (c .before .before .before .before .before .loop .inv .1) (c .before .before .before .before .loop-test .left) (h .rule) (h .sized) (h .stands) in
-    omega (arith, put-length (s .pre .1 .2) x)
+    omega (arith, written-at-length (s .pre .1 .2) x)
 
 put-rule-returns-2 : (t : ℕ) → put-rule-lts.Need-returns-2 (given t) (put-rule-at t) put-rule.Post put-rule-Inv-loop put-rule-μ-loop
 put-rule-returns-2 t c = λ ρ e st.
     let (v, p, x) = walks-done _ _ _ _ _ (c .before .before .before .before .before .loop .inv .1) (c .before .before .before .before .loop-test .left) ρ e st in
-    rw p (put-before (c .before .before .before .before .before .before .before .before .before .before .before .pre .1 .2) x (c .before .before .prepend-opening .ensures))
+    rw p (written-at-before (c .before .before .before .before .before .before .before .before .before .before .before .pre .1 .2) x (c .before .before .prepend-opening .ensures))
 
 pub +put-rule-spec : {M : Type 1} → statement M
 +put-rule-spec = close μ-put-rule λ t. put-rule-lts.spec (given t)

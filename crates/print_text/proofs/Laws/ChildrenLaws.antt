@@ -13,8 +13,8 @@ use Rattle.image.specs.Encode.{joinKind}
 use Rattle.image.specs.Decode.{Node, nodeAt, meaning, cellAt}
 use Rattle.image.proofs.Laws.FitLaws.{cell-size}
 use Rattle.image.proofs.Laws.EncodeLaws.{size-pos}
-use Rattle.image.specs.Inner.Standing.{EncodedAt, EncodedAllAt}
-use Rattle.image.proofs.Laws.StandingLaws.{root-size}
+use Rattle.image.specs.Inner.EncodedAt.{EncodedAt, EncodedAllAt}
+use Rattle.image.proofs.Laws.EncodedAtLaws.{root-size}
 use Rattle.image.proofs.Laws.KindLaws.{says, no-leaf, leaf-no-join}
 use Rattle.image.proofs.Laws.CellLaws.{cell-what}
 use Rattle.print_text.specs.Print.{childText, textOf, childrenText}

@@ -14,10 +14,10 @@ use Rattle.image.specs.Layout.{namesStart, nameStart, nameLength}
 use Rattle.image.specs.Encode.{leafKind, joinKind, joinArg}
 use Rattle.image.specs.Decode.{Meaning, aLeaf, aJoin, nothing, meaning, Cell}
 use Rattle.image.specs.Inner.Leaves.{isLeaf}
-use Rattle.image.specs.Inner.Standing.{EncodedAt}
+use Rattle.image.specs.Inner.EncodedAt.{EncodedAt}
 use Rattle.image.proofs.Laws.KindLaws.{other-kind, says, NoLeaf, no-leaf}
-use Rattle.print_text.specs.Print.{opening, behind, isAny, bracketed, bracket, childText}
-use Rattle.print_text.specs.Inner.Pieces.{leafTextOf, leafIn, openingOf, behindOf, bracketedOf, frontOf, backOf}
+use Rattle.print_text.specs.Print.{opening, afterChild, isAny, bracketed, bracket, childText}
+use Rattle.print_text.specs.Inner.Pieces.{leafTextOf, leafIn, openingOf, afterChildOf, bracketedOf, frontOf, backOf}
 use Rattle.decimal.proofs.Laws.DigitsLaws.{digits-short}
 use Rattle.duration_text.proofs.Laws.DurationTextLaws.{duration-short}
 
@@ -52,12 +52,12 @@ opening-of (atLeast k) = refl
 opening-of all = refl
 opening-of any = refl
 
-behind-of : (j : Join) (last : Bool) → behindOf (joinKind j) last ≡ behind j last
-unfolding behindOf
-behind-of (atLeast k) true = refl
-behind-of (atLeast k) false = refl
-behind-of all last = refl
-behind-of any last = refl
+after-child-of : (j : Join) (last : Bool) → afterChildOf (joinKind j) last ≡ afterChild j last
+unfolding afterChildOf
+after-child-of (atLeast k) true = refl
+after-child-of (atLeast k) false = refl
+after-child-of all last = refl
+after-child-of any last = refl
 
 -- a bracket, as an any under an all has it
 any-of : (q : Rule) → eqb (kindOf q) anyKind ≡ isAny q
@@ -77,7 +77,7 @@ bracketed-of any q = refl
 -- a child with what surrounds it
 pub child-of : (j : Join) (q : Rule) (t : List ℕ) (last : Bool) → childText j q t last ≡ frontOf (joinKind j) (kindOf q) ++ (t ++ backOf (joinKind j) (kindOf q) last)
 unfolding childText frontOf backOf
-child-of j q t last = rw (bracketed-of j q, behind-of j last)
+child-of j q t last = rw (bracketed-of j q, after-child-of j last)
 
 -- ---- kinds that have no text of a leaf, nothing before their children, nothing after a child
 leaf-none : (m : Meaning) → NoLeaf m → leafTextOf m ≡ []
@@ -93,21 +93,21 @@ pub no-opening : (k a : ℕ) → (k ≡ atLeastKind → ⊥) → openingOf k a �
 unfolding openingOf
 no-opening k a h = rw (ne-eqb k atLeastKind h)
 
-pub none-behind : (k : ℕ) {last : Bool} → (k ≡ atLeastKind → ⊥) → (allKind ≤ k → k ≤ anyKind → last ≡ true) → behindOf k last ≡ []
-unfolding behindOf behind
-none-behind k {last} g h = rw (ne-eqb k atLeastKind g) (by-all (eqb k allKind) refl)
+pub after-child-none : (k : ℕ) {last : Bool} → (k ≡ atLeastKind → ⊥) → (allKind ≤ k → k ≤ anyKind → last ≡ true) → afterChildOf k last ≡ []
+unfolding afterChildOf afterChild
+after-child-none k {last} g h = rw (ne-eqb k atLeastKind g) (by-all (eqb k allKind) refl)
   where
-    by-any : (b : Bool) → eqb k anyKind ≡ b → cond b (behind any last) [] ≡ []
+    by-any : (b : Bool) → eqb k anyKind ≡ b → cond b (afterChild any last) [] ≡ []
     by-any true e = let p = eqb-true k anyKind e in rw (h (omega arith) (omega arith))
     by-any false e = refl
 
-    by-all : (b : Bool) → eqb k allKind ≡ b → cond b (behind all last) (cond (eqb k anyKind) (behind any last) []) ≡ []
+    by-all : (b : Bool) → eqb k allKind ≡ b → cond b (afterChild all last) (cond (eqb k anyKind) (afterChild any last) []) ≡ []
     by-all true e = let p = eqb-true k allKind e in rw (h (omega arith) (omega arith))
     by-all false e = by-any (eqb k anyKind) refl
 
 -- ---- how long they are at most: what comes after a child, what surrounds it, what comes before the children, and a leaf
-sign-short : (j : Join) (last : Bool) → length (behind j last) ≤ 4
-unfolding behind
+sign-short : (j : Join) (last : Bool) → length (afterChild j last) ≤ 4
+unfolding afterChild
 sign-short (atLeast k) true = omega arith
 sign-short (atLeast k) false = omega arith
 sign-short all true = omega arith
@@ -115,11 +115,11 @@ sign-short all false = omega arith
 sign-short any true = omega arith
 sign-short any false = omega arith
 
-pub behind-short : (k : ℕ) (last : Bool) → length (behindOf k last) ≤ 4
-unfolding behindOf
-behind-short k last = by (eqb k atLeastKind) (eqb k allKind) (eqb k anyKind)
+pub after-child-short : (k : ℕ) (last : Bool) → length (afterChildOf k last) ≤ 4
+unfolding afterChildOf
+after-child-short k last = by (eqb k atLeastKind) (eqb k allKind) (eqb k anyKind)
   where
-    by : (a b c : Bool) → length (cond a (behind (atLeast 0) last) (cond b (behind all last) (cond c (behind any last) []))) ≤ 4
+    by : (a b c : Bool) → length (cond a (afterChild (atLeast 0) last) (cond b (afterChild all last) (cond c (afterChild any last) []))) ≤ 4
     by true b c = sign-short (atLeast 0) last
     by false true c = sign-short all last
     by false false true = sign-short any last
@@ -134,7 +134,7 @@ pub child-short : (j : Join) (q : Rule) (t : List ℕ) (last : Bool) → length 
 unfolding childText
 child-short j q t last =
     let b = bracketed j q in
-    let h = rw (behind-of j last) at (behind-short (joinKind j) last) in
+    let h = rw (after-child-of j last) at (after-child-short (joinKind j) last) in
     simp length-append (omega (arith, bracket-short b (bytes "("), bracket-short b (bytes ")")))
 
 pub opening-short : (j : Join) → length (opening j) ≤ 31

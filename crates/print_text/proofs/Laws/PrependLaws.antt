@@ -6,18 +6,18 @@ use native.Mathlib.Omega.{arith}
 use lib.Dec.{eqb}
 use lib.ListN.{length}
 use Rattle.slices.specs.Text.{WrittenAt}
-use Rattle.slices.proofs.Laws.WrittenLaws.{put-length}
+use Rattle.slices.proofs.Laws.WrittenLaws.{written-at-length}
 use Rattle.rules.specs.Rule.{Rule, size}
 use Rattle.image.specs.Decode.{Node, cellAt}
-use Rattle.image.specs.Inner.Standing.{EncodedAt}
-use Rattle.image.proofs.Laws.StandingLaws.{one-rule}
+use Rattle.image.specs.Inner.EncodedAt.{EncodedAt}
+use Rattle.image.proofs.Laws.EncodedAtLaws.{one-rule}
 use Rattle.print_text.specs.Print.{textOf}
 use Rattle.print_text.specs.Inner.Pieces.{frontOf, backOf}
 use Rattle.print_text.proofs.Laws.ChildrenLaws.{Turn, turn-room}
 
 -- bytes that are written begin inside the text
 pub put-start : {a b v : List ℕ} {to end : ℕ} → end ≤ length a → WrittenAt a b to end v → to ≤ length b
-put-start long x = omega (arith, put-length long x, x .ends)
+put-start long x = omega (arith, written-at-length long x, x .ends)
 
 -- of a rule whose text has room before `end`, a part is written from `to` on, and a child is the next to be written
 module _ {s : List ℕ} {n kind arg from k stop : ℕ} {a b : List ℕ} {to end : ℕ} {ρ : Rule} {d : Node} (fits : length (textOf ρ) ≤ end) (u : Turn s n kind arg from k stop (λ t. WrittenAt a b to end t) ρ d) where

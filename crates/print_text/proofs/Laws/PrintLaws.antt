@@ -8,7 +8,7 @@ use Rattle.slices.specs.Text.{bytes}
 use Rattle.decimal.specs.Digits.{digitsOf}
 use Rattle.duration_text.specs.DurationText.{durationText}
 use Rattle.rules.specs.Rule.{named, olderThan, readable, Join, Rule, leaf, node, Rules, more}
-use Rattle.print_text.specs.Print.{opening, behind, bracketed, childText, textOf, childrenText}
+use Rattle.print_text.specs.Print.{opening, afterChild, bracketed, childText, textOf, childrenText}
 
 -- ---- leaves
 pub text-named : (w : List ℕ) → textOf (leaf (named w)) ≡ w
@@ -41,10 +41,10 @@ module _ (j : Join) (rs : Rules) (r : Rule) where
 
 -- ---- a child of text t, without brackets and with them
 module _ (j : Join) (r : Rule) (t : List ℕ) (last : Bool) where
-  pub child-plain : bracketed j r ≡ false → childText j r t last ≡ t ++ behind j last
+  pub child-plain : bracketed j r ≡ false → childText j r t last ≡ t ++ afterChild j last
   unfolding childText
   child-plain e = rw e
 
-  pub child-bracketed : bracketed j r ≡ true → childText j r t last ≡ bytes "(" ++ (t ++ (bytes ")" ++ behind j last))
+  pub child-bracketed : bracketed j r ≡ true → childText j r t last ≡ bytes "(" ++ (t ++ (bytes ")" ++ afterChild j last))
   unfolding childText
   child-bracketed e = rw e

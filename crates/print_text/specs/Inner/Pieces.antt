@@ -7,7 +7,7 @@ use Rattle.slices.specs.Text.{bytes}
 use Rattle.rules.specs.Rule.{atLeast, all, any}
 use Rattle.image.specs.Kinds.{atLeastKind, allKind, anyKind}
 use Rattle.image.specs.Decode.{Meaning, aLeaf, aJoin, nothing, meaning}
-use Rattle.print_text.specs.Print.{leafText, opening, behind, bracket}
+use Rattle.print_text.specs.Print.{leafText, opening, afterChild, bracket}
 
 -- a leaf's text
 unfoldable pub leafTextOf : Meaning → List ℕ
@@ -26,12 +26,12 @@ unfolding opening
 openingOf kind arg = cond (eqb kind atLeastKind) (opening (atLeast arg)) []
 
 -- what comes after a child of a combinator of this kind
-unfoldable pub behindOf : ℕ → Bool → List ℕ
-unfolding behind
-behindOf kind last =
-    cond (eqb kind atLeastKind) (behind (atLeast 0) last)
-    (cond (eqb kind allKind) (behind all last)
-    (cond (eqb kind anyKind) (behind any last) []))
+unfoldable pub afterChildOf : ℕ → Bool → List ℕ
+unfolding afterChild
+afterChildOf kind last =
+    cond (eqb kind atLeastKind) (afterChild (atLeast 0) last)
+    (cond (eqb kind allKind) (afterChild all last)
+    (cond (eqb kind anyKind) (afterChild any last) []))
 
 -- an any under an all, by their kinds
 unfoldable pub bracketedOf : ℕ → ℕ → Bool
@@ -43,5 +43,5 @@ unfolding bracket bracketedOf
 frontOf kind child = bracket (bracketedOf kind child) (bytes "(")
 
 unfoldable pub backOf : ℕ → ℕ → Bool → List ℕ
-unfolding bracket bracketedOf behindOf
-backOf kind child last = bracket (bracketedOf kind child) (bytes ")") ++ behindOf kind last
+unfolding bracket bracketedOf afterChildOf
+backOf kind child last = bracket (bracketedOf kind child) (bytes ")") ++ afterChildOf kind last

@@ -1,7 +1,7 @@
 -- `report::append_judged` meets its contract: the verdict's line, and after it what that verdict means. Assumes nothing.
 use native.Mathlib.Omega.{arith}
 use borrow.Author.Needs.{needs}
-use Rattle.slices.proofs.Laws.WrittenLaws.{put-behind}
+use Rattle.slices.proofs.Laws.WrittenLaws.{written-at-after}
 use Rattle.details.proofs.Laws.ShortLaws.{verdict-short, meaning-short}
 use Rattle.report.proofs.append_judged.Statement.{statement}
 use Rattle.report.proofs.append_judged.Tie as tie
@@ -30,7 +30,7 @@ returns c =
     let e₂ = c .before .before in
     let t = e₂ .before .before in
     let e₁ = t .before .before .before .before in
-    rw (t .enum-told .given .1) (put-behind (omega arith) (rw (t .enum-told .given .1) at (e₁ .append-verdict .ensures)) (e₂ .append-pass .ensures))
+    rw (t .enum-told .given .1) (written-at-after (omega arith) (rw (t .enum-told .given .1) at (e₁ .append-verdict .ensures)) (e₂ .append-pass .ensures))
 
 returns-2 : tie.Need-returns-2
 returns-2 c =
@@ -39,7 +39,7 @@ returns-2 c =
     let t = e₂ .before .before .before in
     let e₁ = t .before .before .before .before in
     let s = e₁ .before .before .before .before .before in
-    rw (t .v .given .1) (put-behind (omega arith) (rw (t .v .given .1) at (e₁ .append-verdict .ensures)) (put-behind (omega (arith, verdict-short (s .args .v))) (e₂ .append-meaning .ensures) (e₃ .append-detail .ensures)))
+    rw (t .v .given .1) (written-at-after (omega arith) (rw (t .v .given .1) at (e₁ .append-verdict .ensures)) (written-at-after (omega (arith, verdict-short (s .args .v))) (e₂ .append-meaning .ensures) (e₃ .append-detail .ensures)))
 
 pub append-judged-spec : {M : Type 1} → statement M
 append-judged-spec =

@@ -52,12 +52,12 @@ module _ (s : List ℕ) (at : ℕ) (h : at ≤ length s) where
         (written-then (take i xs) (getD xs i 0 ∷ []) (at + i) (rw front-length) e (written-sets s′ (at + i) (getD xs i 0 ∷ []) (omega arith)))
 
 -- ---- bytes written into a text, from its end on: none
-pub put-none : (s : List ℕ) (end : ℕ) → WrittenAt s s end end []
-put-none s end = record { ends = add-zero end; text = written-none s end }
+pub written-at-none : (s : List ℕ) (end : ℕ) → WrittenAt s s end end []
+written-at-none s end = record { ends = add-zero end; text = written-none s end }
 
 -- a byte that ends at a position
-pub put-byte : (s : List ℕ) (end b : ℕ) → 1 ≤ end → end ≤ length s → WrittenAt s (set s (end - 1) b) (end - 1) end (b ∷ [])
-put-byte s end b l h = record { ends = omega arith; text = written-sets s (end - 1) (b ∷ []) (omega arith) }
+pub written-at-byte : (s : List ℕ) (end b : ℕ) → 1 ≤ end → end ≤ length s → WrittenAt s (set s (end - 1) b) (end - 1) end (b ∷ [])
+written-at-byte s end b l h = record { ends = omega arith; text = written-sets s (end - 1) (b ∷ []) (omega arith) }
 
 -- what is written before what was written
 written-before : (s : List ℕ) (p at : ℕ) (v w : List ℕ) → at ≤ length s → p + length w ≡ at → written (written s at v) p w ≡ written s p (w ++ v)
@@ -70,30 +70,30 @@ written-before s p at v w h e =
     (simp append-assoc)
 
 -- what is written so that it ends where what was written begins
-pub put-before : {a b c : List ℕ} {p s e : ℕ} {v w : List ℕ} → e ≤ length a → WrittenAt a b s e v → WrittenAt b c p s w → WrittenAt a c p e (w ++ v)
-put-before {a} {b} {c} {p} {s} {e} {v} {w} h x y =
+pub written-at-before : {a b c : List ℕ} {p s e : ℕ} {v w : List ℕ} → e ≤ length a → WrittenAt a b s e v → WrittenAt b c p s w → WrittenAt a c p e (w ++ v)
+written-at-before {a} {b} {c} {p} {s} {e} {v} {w} h x y =
     record {
       ends = rw length-append (omega arith);
       text = y .text ∙ rw (x .text) (written-before a p s v w (omega arith) (y .ends));
     }
 
 -- where it begins follows from where it ends
-pub put-from : {a b : List ℕ} {s e : ℕ} {v : List ℕ} (t : ℕ) → t + length v ≡ e → WrittenAt a b s e v → WrittenAt a b t e v
-put-from {a} {b} {s} {e} {v} t q x = let h : s ≡ t = omega arith in rw h at x
+pub written-at-from : {a b : List ℕ} {s e : ℕ} {v : List ℕ} (t : ℕ) → t + length v ≡ e → WrittenAt a b s e v → WrittenAt a b t e v
+written-at-from {a} {b} {s} {e} {v} t q x = let h : s ≡ t = omega arith in rw h at x
 
 -- what is written after what was written
-pub put-behind : {a b c : List ℕ} {s p e : ℕ} {v w : List ℕ} → s ≤ length a → WrittenAt a b s p v → WrittenAt b c p e w → WrittenAt a c s e (v ++ w)
-put-behind {a} {b} {c} {s} {p} {e} {v} {w} h x y = record { ends = rw length-append (omega arith); text = written-then a s h v w p (x .ends) (x .text) (y .text) }
+pub written-at-after : {a b c : List ℕ} {s p e : ℕ} {v w : List ℕ} → s ≤ length a → WrittenAt a b s p v → WrittenAt b c p e w → WrittenAt a c s e (v ++ w)
+written-at-after {a} {b} {c} {s} {p} {e} {v} {w} h x y = record { ends = rw length-append (omega arith); text = written-then a s h v w p (x .ends) (x .text) (y .text) }
 
 -- up to the end of what was written: what was before it, and then what was written
-pub put-front : {a b : List ℕ} {s e : ℕ} {v : List ℕ} → s ≤ length a → WrittenAt a b s e v → take e b ≡ take s a ++ v
+pub written-at-front : {a b : List ℕ} {s e : ℕ} {v : List ℕ} → s ≤ length a → WrittenAt a b s e v → take e b ≡ take s a ++ v
 unfolding written
-put-front {a} {b} {s} {e} {v} h x = rw (x .text, ← append-assoc (take s a) v _) (take-at (take s a ++ v) _ e (head-length a s h v ∙ x .ends))
+written-at-front {a} {b} {s} {e} {v} h x = rw (x .text, ← append-assoc (take s a) v _) (take-at (take s a ++ v) _ e (head-length a s h v ∙ x .ends))
 
 -- a text keeps its length
-pub put-length : {a b : List ℕ} {s e : ℕ} {v : List ℕ} → e ≤ length a → WrittenAt a b s e v → length b ≡ length a
+pub written-at-length : {a b : List ℕ} {s e : ℕ} {v : List ℕ} → e ≤ length a → WrittenAt a b s e v → length b ≡ length a
 unfolding written
-put-length {a} {b} {s} {e} {v} h x = rw (x .text) (simp (length-append, length-take, length-drop) (omega arith))
+written-at-length {a} {b} {s} {e} {v} h x = rw (x .text) (simp (length-append, length-take, length-drop) (omega arith))
 
 -- ---- what is known of an element after a write
 pub after-set : (P : ℕ → Type 0) (l : List ℕ) (i a j : ℕ) → i < length l → (j ≡ i → P a) → ((j ≡ i → ⊥) → P (getD l j 0)) → P (getD (set l i a) j 0)

@@ -1,7 +1,7 @@
 -- `slices::append` meets its contract: the piece is written so that it ends its length after the position. Assumes nothing.
 use native.Mathlib.Omega.{arith}
 use borrow.Author.Needs.{needs}
-use Rattle.slices.proofs.Laws.WrittenLaws.{put-from}
+use Rattle.slices.proofs.Laws.WrittenLaws.{written-at-from}
 use Rattle.slices.proofs.append.Statement.{statement}
 use Rattle.slices.proofs.append.Tie as tie
 
@@ -15,7 +15,7 @@ same-length : tie.Need-same-length
 same-length c = search needs
 
 returns : tie.Need-returns
-returns c = put-from _ (omega arith) (c .before .before .prepend .ensures)
+returns c = written-at-from _ (omega arith) (c .before .before .prepend .ensures)
 
 pub append-spec : {M : Type 1} → statement M
 append-spec = tie.close (tie.spec add-end prepend-requires same-length returns)

@@ -12,7 +12,7 @@ use Rattle.slices.specs.Text.{bytes, allAscii}
 use Rattle.ascii.specs.Letters.{equal}
 use Rattle.store_table.specs.Stores.{Entry, readWrite, readOnly, writeOnly}
 use Rattle.store_table.proofs.Laws.TableBytesLaws.{Fit, AllFit}
-use Rattle.store_args.specs.Arguments.{split, Given, store, wrong, named, modeTested, colonTested, givenBy, behindColon, Stores, stores, wrongAt, before, storesFrom, storesIn}
+use Rattle.store_args.specs.Arguments.{argumentsIn, Given, store, wrong, named, modeTested, colonTested, givenBy, afterColon, Stores, stores, wrongAt, before, storesFrom, storesIn}
 use Rattle.store_args.specs.declared.Fault.{Fault}
 use Rattle.store_args.specs.declared.Fault.the-variants.{LongName, ForeignName}
 
@@ -45,7 +45,7 @@ mode-fits word name =
 
 pub given-fits : (w : List ℕ) → Fits (givenBy w)
 unfolding givenBy colonTested
-given-fits w = either (ltb 266 (length w)) (wrong-fits _) (either (eqb (behindColon w) 0) (wrong-fits _) (mode-fits _ (take (behindColon w - 1) w)))
+given-fits w = either (ltb 266 (length w)) (wrong-fits _) (either (eqb (afterColon w) 0) (wrong-fits _) (mode-fits _ (take (afterColon w - 1) w)))
 
 -- ---- all stores that n arguments give
 abbrev All : ℕ → Stores → Type 0
@@ -70,8 +70,8 @@ all-from i (w ∷ ws) es x = one-more (givenBy w) i (storesFrom (suc i) ws) (len
 module _ (args : List ℕ) (es : List Entry) (e : storesIn args ≡ stores es) where
   pub stores-fit : AllFit writeOnly es
   unfolding storesIn
-  stores-fit = all-from 1 (split args) es e .0
+  stores-fit = all-from 1 (argumentsIn args) es e .0
 
-  pub stores-many : length es ≡ length (split args)
+  pub stores-many : length es ≡ length (argumentsIn args)
   unfolding storesIn
-  stores-many = all-from 1 (split args) es e .1
+  stores-many = all-from 1 (argumentsIn args) es e .1

@@ -11,8 +11,8 @@ use Rattle.slices.specs.Text.{bytes, allAscii, WrittenAt}
 use Rattle.ascii.specs.Letters.{equal}
 use Rattle.store_table.specs.Stores.{readWrite, readOnly, writeOnly}
 use Rattle.store_args.specs.Arguments as arguments
-use Rattle.store_args.specs.Arguments.{wrong, named, modeTested, behindColon, colonTested, givenBy}
-use Rattle.store_args.specs.Inner.Filling.{Is, Arrays, arrays, OneOf}
+use Rattle.store_args.specs.Arguments.{wrong, named, modeTested, afterColon, colonTested, givenBy}
+use Rattle.store_args.specs.Inner.Filling.{Is, StoreArrays, arrays, OneOf}
 use Rattle.store_args.specs.declared.Fault.{Fault}
 use Rattle.store_args.specs.declared.Fault.the-variants.{NoColon, NoMode, LongName, ForeignName}
 use Rattle.store_args.specs.declared.Given.{Given}
@@ -52,7 +52,7 @@ module _ (w : List ℕ) where
   unfolding givenBy
   given-long l = rw (lt-ltb 266 (length w) l)
 
-  module _ (l : length w ≤ 266) {c : ℕ} (q : c ≡ behindColon w) where
+  module _ (l : length w ≤ 266) {c : ℕ} (q : c ≡ afterColon w) where
     pub given-plain : c ≡ 0 → givenBy w ≡ wrong NoColon
     unfolding givenBy colonTested
     given-plain z = rw (le-ltb 266 (length w) l, ← q, eq-eqb c 0 z)
@@ -63,7 +63,7 @@ module _ (w : List ℕ) where
 
 -- ---- the arrays, where r is the answer to an argument
 module _ {w : List ℕ} {r : Given} {g : arguments.Given} (x : Is w r g) (k used : ℕ) where
-  pub one-wrong : (f : Fault) → r ≡ Wrong f → (a b : Arrays) → OneOf g k used a b (Amiss f)
+  pub one-wrong : (f : Fault) → r ≡ Wrong f → (a b : StoreArrays) → OneOf g k used a b (Amiss f)
   one-wrong f q a b = record { used-to = λ end p. let z : _≡_ {A = ℕ} 0 1 = cc in absurd (omega arith); bad = λ f′ p. sym (x .same) ∙ rw q (cc) }
 
   pub one-store : (m e end : ℕ) → r ≡ Store m e → (ms ls : List ℕ) {ns ns′ : List ℕ} → WrittenAt ns ns′ used end (take e w) → OneOf g k used (arrays ms ls ns) (arrays (set ms k m) (set ls k e) ns′) (Used end)

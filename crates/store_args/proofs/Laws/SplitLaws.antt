@@ -11,21 +11,21 @@ use lib.ListN.{length, take, drop, drop-of-length-le}
 use lib.Seq.{drop-cons, drop-drop}
 use Rattle.slices.specs.Text.{run, runEnd, other}
 use Rattle.slices.proofs.Laws.TextLaws.{end-within}
-use Rattle.store_args.specs.Arguments.{split}
+use Rattle.store_args.specs.Arguments.{argumentsIn}
 use Rattle.store_args.specs.Inner.Filling.{nextArg}
 
 -- the first argument ends where the first 0 is
 abbrev First : List ℕ → Type 0
-First s = let n = run (other 0) s in split s ≡ take n s ∷ split (drop (suc n) s)
+First s = let n = run (other 0) s in argumentsIn s ≡ take n s ∷ argumentsIn (drop (suc n) s)
 
 module _ (b : ℕ) where
   one : (v : Bool) → eqb b 0 ≡ v → First (b ∷ [])
-  unfolding split run other
+  unfolding argumentsIn run other
   one true e = rw e
   one false e = rw e
 
   more : (s : List ℕ) (v : Bool) → eqb b 0 ≡ v → First s → First (b ∷ s)
-  unfolding split run other
+  unfolding argumentsIn run other
   more s true e h = rw e
   more s false e h = rw (e, h)
 
@@ -42,13 +42,13 @@ drop-min n s = go (decLe n (length s))
     go (no h) = let l : length s ≤ n = omega arith in rw (min-eq-right l, drop-of-length-le s l, drop-of-length-le s {i = length s} (omega arith))
 
 module _ (s : List ℕ) (at : ℕ) where
-  pub split-end : length s ≤ at → split (drop at s) ≡ []
-  unfolding split
+  pub split-end : length s ≤ at → argumentsIn (drop at s) ≡ []
+  unfolding argumentsIn
   split-end h = rw (drop-of-length-le s h)
 
   module _ (h : at < length s) where
     -- the argument at a position, and those from the next on
-    pub split-on : split (drop at s) ≡ take (runEnd (other 0) s at - at) (drop at s) ∷ split (drop (nextArg s at) s)
+    pub split-on : argumentsIn (drop at s) ≡ take (runEnd (other 0) s at - at) (drop at s) ∷ argumentsIn (drop (nextArg s at) s)
     unfolding runEnd
     split-on =
         let n = run (other 0) (drop at s) in
@@ -64,17 +64,17 @@ module _ (s : List ℕ) (at : ℕ) where
 pub record Walk (s : List ℕ) (k at : ℕ) : Type 0 where
   pub within : at ≤ length s
   pub few : k ≤ at
-  pub left : k + length (split (drop at s)) ≡ length (split s)
+  pub left : k + length (argumentsIn (drop at s)) ≡ length (argumentsIn s)
 
 pub walk-start : (s : List ℕ) → Walk s 0 0
 walk-start s = omega arith
 
 module _ {s : List ℕ} {k at : ℕ} (w : Walk s k at) where
-  pub walk-end : length s ≤ at → k ≡ length (split s)
+  pub walk-end : length s ≤ at → k ≡ length (argumentsIn s)
   walk-end h = omega (arith, ap length (split-end s at h))
 
   module _ (h : at < length s) where
-    pub walk-in : k < length (split s)
+    pub walk-in : k < length (argumentsIn s)
     walk-in = omega (arith, ap length (split-on s at h))
 
     module _ {next : ℕ} (e : next ≡ nextArg s at) where

@@ -33,28 +33,28 @@ pub record Is (w : List ℕ) (r : Given) (g : arguments.Given) : Type 0 where
   pub short : (m e : ℕ) → r ≡ Store m e → (e ≤ 255) × (e ≤ length w)
 
 -- the modes, the lengths of the names, and the names
-pub record Arrays : Type 0 where
+pub record StoreArrays : Type 0 where
   pub modes : List ℕ
   pub lengths : List ℕ
   pub names : List ℕ
 
-abbrev pub arrays : List ℕ → List ℕ → List ℕ → Arrays
+abbrev pub arrays : List ℕ → List ℕ → List ℕ → StoreArrays
 arrays ms ls ns = record { modes = ms; lengths = ls; names = ns }
 
 -- one store more is in the arrays, at index k, its name up to where the answer says
-pub record OneOf (g : arguments.Given) (k used : ℕ) (a b : Arrays) (r : One) : Type 0 where
+pub record OneOf (g : arguments.Given) (k used : ℕ) (a b : StoreArrays) (r : One) : Type 0 where
   pub used-to : (end : ℕ) → r ≡ Used end → (e : Entry) × ((g ≡ arguments.store e) × ((b .modes ≡ set (a .modes) k (e .mode)) × ((b .lengths ≡ set (a .lengths) k (length (e .name))) × WrittenAt (a .names) (b .names) used end (e .name))))
   pub bad : (f : Fault) → r ≡ Amiss f → g ≡ arguments.wrong f
 
 -- the arrays hold the stores
-pub record Hold (es : List Entry) (count used : ℕ) (a : Arrays) : Type 0 where
+pub record Hold (es : List Entry) (count used : ℕ) (a : StoreArrays) : Type 0 where
   pub many : count ≡ length es
   pub modes : take count (a .modes) ≡ table.modes es
   pub lengths : take count (a .lengths) ≡ table.lengths es
   pub names : take used (a .names) ≡ table.joined es
   pub ends : used ≡ length (table.joined es)
 
-pub record FilledBy (s : Stores) (a : Arrays) (r : Filled) : Type 0 where
+pub record FilledBy (s : Stores) (a : StoreArrays) (r : Filled) : Type 0 where
   pub filled : (count used : ℕ) → r ≡ All count used → (es : List Entry) × ((s ≡ stores es) × Hold es count used a)
   pub bad : (i : ℕ) (f : Fault) → r ≡ First i f → s ≡ wrongAt i f
 

@@ -9,14 +9,14 @@ use Rattle.store_table.proofs.Laws.EntriesLaws.{Seen, seen-start, seen-end, see
 use Rattle.store_table.proofs.Laws.WalkLaws.{length-entries, standing-start, standing-within, standing-next, standing-here}
 use Rattle.store_table.proofs.Laws.MemberLaws.{same-eq}
 use Rattle.store_table.proofs.Laws.EntryLaws.{has-at}
-use Rattle.store_table.specs.Inner.Index.{Indexed, Standing}
+use Rattle.store_table.specs.Inner.Index.{Indexed, EntryWalk}
 use Rattle.store_table.proofs.Laws.IndexLaws.{indexed-start, indexed-next}
 use Rattle.store_index.proofs.twin_of.Statement.{statement}
 use Rattle.store_index.proofs.twin_of.Tie as tie
 
 abbrev Inv-loop : tie.InvT-loop
 Inv-loop stores starts₀ slots₀ count k₀ at₀ starts slots k at =
-    Standing stores count k at × Seen (entriesIn stores) k × Indexed stores k starts slots × (at ≤ namesStart count + 255 * k) × (k ≤ count)
+    EntryWalk stores count k at × Seen (entriesIn stores) k × Indexed stores k starts slots × (at ≤ namesStart count + 255 * k) × (k ≤ count)
 
 abbrev μ-loop : tie.MeasureT-loop
 μ-loop stores starts₀ slots₀ count k₀ at₀ starts slots k at = count - k

@@ -10,7 +10,7 @@ use Rattle.store_table.specs.Names.{sameName, has}
 use Rattle.store_table.proofs.Laws.SameLaws.{same-not}
 use Rattle.store_table.proofs.Laws.NamesLaws.{has-next}
 use Rattle.store_table.specs.Stores.{Entry, countIn, entriesIn, allNames}
-use Rattle.store_table.specs.Inner.Index.{hashOf, EntryAt, Finds, Indexed, Blank, Standing}
+use Rattle.store_table.specs.Inner.Index.{hashOf, EntryAt, Finds, Indexed, Blank, EntryWalk}
 use Rattle.store_table.specs.declared.Found.the-variants.{No, At}
 
 -- ---- what a look finds
@@ -45,11 +45,11 @@ module _ {s starts slots : List ℕ} {k : ℕ} (h : Indexed s k starts slots) wh
   slot-empty w z = not-eq-not .0 (λ p. h .filled w p z)
 
   -- one entry more, x, whose name begins at `at`
-  module _ {count at hash : ℕ} {x : Entry} (st : Standing s count k at) (e : EntryAt (entriesIn s) k x) (q : hash ≡ hashOf (x .name)) (room : k < length starts) (slot : hash < length slots) where
+  module _ {count at hash : ℕ} {x : Entry} (st : EntryWalk s count k at) (e : EntryAt (entriesIn s) k x) (q : hash ≡ hashOf (x .name)) (room : k < length starts) (slot : hash < length slots) where
     pub indexed-next : Indexed s (k + 1) (set starts k at) (set slots hash (k + 1))
     indexed-next =
         record {
-          begins = λ j lt. after-set (Standing s (countIn s) j) starts k at j room (λ z. rw (z, ← st .counted) st) (λ n. h .begins j (omega arith));
+          begins = λ j lt. after-set (EntryWalk s (countIn s) j) starts k at j room (λ z. rw (z, ← st .counted) st) (λ n. h .begins j (omega arith));
           kept = λ g. after-set (λ v. v ≤ k + 1) slots hash (k + 1) g slot (λ z. omega arith) (λ n. omega (arith, h .kept g));
           filled = λ w p. after-set (λ v. v ≡ 0 → ⊥) slots hash (k + 1) (hashOf w) slot (λ z o. omega arith) (λ n. h .filled w (among w n p));
         }

@@ -17,10 +17,10 @@ pub same-not : {A : Type 0} {a b : List ℕ} (f : List ℕ → A) → (f a ≡ f
 same-not {A} {a} {b} f h = not-eq-not .0 (λ e. h (ap f (same-eq a b e)))
 
 -- names that begin the same way
-same-behind : (p a b : List ℕ) → sameName (p ++ a) (p ++ b) ≡ sameName a b
+same-after-prefix : (p a b : List ℕ) → sameName (p ++ a) (p ++ b) ≡ sameName a b
 unfolding sameName
-same-behind [] a b = refl
-same-behind (x ∷ p) a b = rw (eq-eqb x x refl) (same-behind p a b)
+same-after-prefix [] a b = refl
+same-after-prefix (x ∷ p) a b = rw (eq-eqb x x refl) (same-after-prefix p a b)
 
 module _ (at k : ℕ) where
   -- the part from a position on begins with a number in k bytes
@@ -30,4 +30,4 @@ module _ (at k : ℕ) where
       sym (take-append-drop k (drop at s)) ∙ rw (drop-drop, rw (length-leBytes k (leAt s at k)) at (at-number s at k b fits))
 
   pub same-number : (a b : List ℕ) → AllBytes a → AllBytes b → at + k ≤ length a → at + k ≤ length b → leAt a at k ≡ leAt b at k → sameName (drop at a) (drop at b) ≡ sameName (drop (at + k) a) (drop (at + k) b)
-  same-number a b p q f g e = rw (number-first a p f, number-first b q g, e) (same-behind (leBytes k (leAt b at k)) _ _)
+  same-number a b p q f g e = rw (number-first a p f, number-first b q g, e) (same-after-prefix (leBytes k (leAt b at k)) _ _)

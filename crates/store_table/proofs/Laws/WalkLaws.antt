@@ -9,7 +9,7 @@ use lib.Seq.{length-take-le, take-all, drop-nil, drop-cons, drop-drop}
 use Rattle.store_table.specs.Stores.{modesStart, lengthsStart, namesStart, Entry, entriesFrom, entriesIn, countIn, modesIn, lengthsIn, nameBytesIn, sum}
 use Rattle.store_table.specs.Inner.Bounds.{TableInBounds}
 use Rattle.store_table.proofs.Laws.PartLaws.{part-get, part-at, sum-on}
-use Rattle.store_table.specs.Inner.Index.{Standing, EntryAt, lengthAt}
+use Rattle.store_table.specs.Inner.Index.{EntryWalk, EntryAt, lengthAt}
 
 -- ---- there are as many entries as the count says
 length-from : (n : ℕ) (ms ls bs : List ℕ) → length ms ≡ n → length ls ≡ n → length (entriesFrom ms ls bs) ≡ n
@@ -48,7 +48,7 @@ mode-of s k h lt e = sym (part-get s modesStart (countIn s) k (omega arith) lt) 
 pub length-of : (s : List ℕ) {count : ℕ} (k : ℕ) → TableInBounds s → count ≡ countIn s → k < count → getD s (lengthsStart count + k) 0 ≡ lengthAt s k
 length-of s k h e lt = rw e (sym (part-get s (lengthsStart (countIn s)) (countIn s) k (omega arith) (omega arith)))
 
-pub standing-start : (s : List ℕ) (count : ℕ) → TableInBounds s → count ≡ countIn s → Standing s count 0 (namesStart count)
+pub standing-start : (s : List ℕ) (count : ℕ) → TableInBounds s → count ≡ countIn s → EntryWalk s count 0 (namesStart count)
 unfolding entriesIn
 standing-start s count h e = record { laid = h; counted = e; fills = omega (arith, h .names); rest = rw e }
 
@@ -57,7 +57,7 @@ abbrev pub entryAt : List ℕ → ℕ → ℕ → ℕ → Entry
 entryAt s k at len = record { mode = getD (modesIn s) k 0; name = take (at + len - at) (drop at s) }
 
 -- one entry more, of this length
-module _ {s : List ℕ} {count k at : ℕ} (h : Standing s count k at) (lt : k < count) {len : ℕ} (e : len ≡ lengthAt s k) where
+module _ {s : List ℕ} {count k at : ℕ} (h : EntryWalk s count k at) (lt : k < count) {len : ℕ} (e : len ≡ lengthAt s k) where
   length-at : len ≡ getD s (lengthsStart (countIn s) + k) 0
   length-at = e ∙ sym (length-of s k (h .laid) refl (omega arith))
 
@@ -70,7 +70,7 @@ module _ {s : List ℕ} {count k at : ℕ} (h : Standing s count k at) (lt : k <
   pub standing-within : at + len + sum (drop (k + 1) (lengthsIn s)) ≤ length s
   standing-within = omega (arith, length-at, sum-on s (lengthsStart (countIn s)) (countIn s) k (omega arith) (omega arith))
 
-  pub standing-next : Standing s count (k + 1) (at + len)
+  pub standing-next : EntryWalk s count (k + 1) (at + len)
   standing-next =
       record {
         laid = h .laid;

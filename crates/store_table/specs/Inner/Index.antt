@@ -29,7 +29,7 @@ hashOf w = (keyOf w / 4294967296 + keyOf w % 4294967296) * 1640531527 / 16777216
 
 -- where a walk is after k entries: the next name begins at `at`, the names that are left lie within the bytes, and the
 -- entries that are left are cut from there
-pub record Standing (s : List ℕ) (count k at : ℕ) : Type 0 where
+pub record EntryWalk (s : List ℕ) (count k at : ℕ) : Type 0 where
   pub laid : TableInBounds s
   pub counted : count ≡ countIn s
   pub fills : at + sum (drop k (lengthsIn s)) ≤ length s
@@ -51,7 +51,7 @@ pub record Finds (w : List ℕ) (es : List Entry) (first : ℕ) (r : Found) : Ty
 -- the first entries are indexed: where their names begin; each slot holds nothing (0) or one of them, plus 1; and the slot of
 -- each of their names holds something
 pub record Indexed (s : List ℕ) (first : ℕ) (starts slots : List ℕ) : Type 0 where
-  pub begins : (k : ℕ) → k < first → Standing s (countIn s) k (getD starts k 0)
+  pub begins : (k : ℕ) → k < first → EntryWalk s (countIn s) k (getD starts k 0)
   pub kept : (h : ℕ) → getD slots h 0 ≤ first
   pub filled : (w : List ℕ) → has w (allNames (take first (entriesIn s))) ≡ true → getD slots (hashOf w) 0 ≡ 0 → ⊥
 

@@ -15,7 +15,7 @@ use Rattle.image.specs.Encode.{encode}
 use Rattle.image.specs.Decode.{cellAt, decode}
 use Rattle.image.specs.Inner.Valid.{isSome}
 use Rattle.image.proofs.Laws.FitLaws.{isSome-true, isSome-false}
-use Rattle.image.specs.Inner.Standing.{EncodedAt}
+use Rattle.image.specs.Inner.EncodedAt.{EncodedAt}
 use Rattle.grammar.specs.Reading.{Read, rule, refused, readOf}
 use Rattle.grammar.proofs.Laws.FitsLaws.{read-decodes}
 use Rattle.read.specs.Outcome.{Outcome, outcome, readingOf}

@@ -10,7 +10,7 @@ use Rattle.rules.specs.Rule.{named, olderThan, readable, Rule, leaf, node, Rule
 use Rattle.image.specs.Kinds.{namedKind}
 use Rattle.image.specs.Layout.{nameOf}
 use Rattle.image.specs.Decode.{Node, nodeAt, Meaning, aLeaf, aJoin, nothing, meaning, Cell, cellAt}
-use Rattle.image.specs.Inner.Standing.{EncodedAt, EncodedAllAt}
+use Rattle.image.specs.Inner.EncodedAt.{EncodedAt, EncodedAllAt}
 use Rattle.store_table.specs.Names.{has}
 use Rattle.store_table.specs.Stores.{Entry, allNames}
 use Rattle.image.proofs.Laws.KindLaws.{no-name}

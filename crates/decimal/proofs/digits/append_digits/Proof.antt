@@ -1,7 +1,7 @@
 -- `decimal::digits::append_digits` meets its contract: the digits are written so that they end where their number says. Assumes nothing.
 use native.Mathlib.Omega.{arith}
 use borrow.Author.Needs.{needs}
-use Rattle.slices.proofs.Laws.WrittenLaws.{put-from}
+use Rattle.slices.proofs.Laws.WrittenLaws.{written-at-from}
 use Rattle.decimal.proofs.Laws.DigitsLaws.{digits-short}
 use Rattle.decimal.proofs.digits.append_digits.Statement.{statement}
 use Rattle.decimal.proofs.digits.append_digits.Tie as tie
@@ -21,7 +21,7 @@ same-length c = search needs
 returns : tie.Need-returns
 returns c =
     let p = c .before .before in
-    put-from _ (omega (arith, p .before .before .digit-count .ensures)) (p .prepend-digits .ensures)
+    written-at-from _ (omega (arith, p .before .before .digit-count .ensures)) (p .prepend-digits .ensures)
 
 pub append-digits-spec : {M : Type 1} → statement M
 append-digits-spec = tie.close (tie.spec digit-count-requires add-end prepend-digits-requires same-length returns)

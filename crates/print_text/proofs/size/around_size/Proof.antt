@@ -3,12 +3,12 @@ use mathlib.Core.Path.{sym, _∙_}
 use native.Mathlib.Omega.{arith}
 use borrow.Author.Needs.{needs}
 use Rattle.print_text.specs.Inner.Pieces.{frontOf, backOf}
-use Rattle.print_text.proofs.Laws.PiecesLaws.{behind-short}
+use Rattle.print_text.proofs.Laws.PiecesLaws.{after-child-short}
 use Rattle.print_text.proofs.size.around_size.Statement.{statement}
 use Rattle.print_text.proofs.size.around_size.Tie as tie
 
 add-result : tie.Need-add-result
-add-result c = omega (arith, behind-short (c .before .before .before .args .kind) (c .before .before .before .args .last))
+add-result c = omega (arith, after-child-short (c .before .before .before .args .kind) (c .before .before .before .args .last))
 
 returns : tie.Need-returns
 unfolding frontOf backOf
@@ -23,8 +23,8 @@ around-size-spec =
     tie.close
     (tie.spec
     (λ c κs. search needs)  -- is-bracketed-requires
-    (λ c κs. search needs)  -- behind-size-requires
+    (λ c κs. search needs)  -- after-size-requires
     add-result
     returns
-    (λ c κs. search needs)  -- behind-size-requires-2
+    (λ c κs. search needs)  -- after-size-requires-2
     returns-2)

@@ -8,7 +8,7 @@ use Rattle.image.specs.Inner.Subtree.{rowOf}
 use Rattle.evaluate.proofs.Laws.ByLaws.{by-says}
 use Rattle.rules.specs.Rule.{Rule, size}
 use Rattle.image.specs.Decode.{cellAt}
-use Rattle.image.specs.Inner.Standing.{EncodedAt}
+use Rattle.image.specs.Inner.EncodedAt.{EncodedAt}
 use Rattle.store_table.specs.Stores.{entriesIn, writeOnlyNames}
 use Rattle.evaluate.specs.Evict.{envOf, evict}
 use Rattle.verdict.specs.Check.{oldest, evictsUnconfirmed}

@@ -13,16 +13,16 @@ use Rattle.parse_text.proofs.Laws.ParseTextLaws.{read-long}
 use Rattle.verdict.specs.declared.Verdict.the-variants.{Refused}
 use Rattle.verdict.specs.Check.{judgeOf}
 use Rattle.verdict.proofs.Laws.PlaceLaws.{judge-placed}
-use Rattle.details.specs.Inner.Room.{Due}
+use Rattle.details.specs.Inner.Room.{RefusalBounds}
 
 -- a long text gets 2
 long-2 : (text s : List ℕ) (f : Refusal) → judgeOf text s ≡ Refused f → 2048 < length text → f .number ≡ longText
 unfolding judgeOf
 long-2 text s f e h = let q : refusal longText 0 ≡ f = cc (rw (read-long text h) at e) in rw (← q) refl
 
-pub judged-due : (text s : List ℕ) (f : Refusal) → judgeOf text s ≡ Refused f → Due text f
+pub judged-bounds : (text s : List ℕ) (f : Refusal) → judgeOf text s ≡ Refused f → RefusalBounds text f
 unfolding judgeOf
-judged-due text s f e = record {
+judged-bounds text s f e = record {
   short = λ l m. go (ltb 2048 (length text)) refl l;
   index = judge-placed s f text e .store;
 }

@@ -7,7 +7,7 @@ use lib.Dec.{eqb}
 use borrow.Author.Tests.{eqb-true}
 use Rattle.rules.specs.Rule.{Rule, leaf, node, Rules, nil, more, size, sizes}
 use Rattle.image.specs.Decode.{Meaning, aLeaf, aJoin, nothing, Cell, place, build}
-use Rattle.image.specs.Inner.Standing.{EncodedAt, EncodedAllAt}
+use Rattle.image.specs.Inner.EncodedAt.{EncodedAt, EncodedAllAt}
 use Rattle.image.proofs.Laws.EncodeLaws.{size-pos}
 use Rattle.image.proofs.Laws.BuildLaws.{when-some, bind-some, chain, closed, sizes-chain, sizes-close}
 
@@ -56,11 +56,11 @@ mutual
       cc
 
 -- of rules one after another: the first ones, and those after them
-stand-chain : (f : ℕ → Cell) (s : ℕ) (ps rs : Rules) → EncodedAllAt (chain ps rs) f s → EncodedAllAt ps f s × EncodedAllAt rs f (s + sizes ps)
+encoded-chain : (f : ℕ → Cell) (s : ℕ) (ps rs : Rules) → EncodedAllAt (chain ps rs) f s → EncodedAllAt ps f s × EncodedAllAt rs f (s + sizes ps)
 unfolding chain EncodedAt
-stand-chain f s ps nil h = (h, tt)
-stand-chain f s ps (more rs r) h =
-    let (x, y) = stand-chain f s ps rs (h .0) in
+encoded-chain f s ps nil h = (h, tt)
+encoded-chain f s ps (more rs r) h =
+    let (x, y) = encoded-chain f s ps rs (h .0) in
     let z : s + sizes (chain ps rs) ≡ s + sizes ps + sizes rs = omega (arith, sizes-chain ps rs) in
     (x, (y, rw z at (h .1)))
 
@@ -83,7 +83,7 @@ module _ (f : ℕ → Cell) where
       let was = ap sizes (c .was) in
       let pos = size-pos (c .child) in
       let h = rw (c .was) at (b .standing) in
-      let (x, y) = stand-chain f 0 (c .before) (c .children) (h .0) in
+      let (x, y) = encoded-chain f 0 (c .before) (c .children) (h .0) in
       let d : 0 + sizes (chain (c .before) (c .children)) ≡ 0 + sizes (c .before) + sizes (c .children) = omega (arith, sizes-chain (c .before) (c .children)) in
       let q : 0 + sizes (c .before) + sizes (c .children) + size (c .child) ≡ i = omega (arith, b .sized) in
       let s : f i .size ≡ suc (sizes (c .children) + size (c .child)) = omega (arith, c .sized) in
