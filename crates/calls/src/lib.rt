@@ -1,5 +1,4 @@
 // Calls: what follows a function's opening bracket, up to its closing bracket or its list.
-ghost use mathlib.Core.Path.{_≡_};
 ghost use Prim.Native.Nat.{_≤_};
 ghost use lib.ListN.{length};
 ghost use Rattle.classes.specs.Inner.ClassTable.{IsClassTable};

@@ -1,6 +1,6 @@
 // What follows an expression that was read: an operand after a chain's sign, a group's closing bracket, a list's arguments.
 ghost use mathlib.Core.Path.{_≡_};
-ghost use Prim.Native.Nat.{_-_, _+_, _≤_, _<_, _%_};
+ghost use Prim.Native.Nat.{_-_, _+_, _≤_, _<_};
 ghost use lib.Dec.{eqb};
 ghost use lib.ListN.{length, getD};
 ghost use Rattle.classes.specs.Class.{ampersand, bar};

@@ -1,5 +1,4 @@
 // How a primary begins.
-ghost use mathlib.Core.Path.{_≡_};
 ghost use Prim.Native.Nat.{_≤_, _+_, _-_};
 ghost use lib.ListN.{length};
 ghost use Rattle.slices.specs.Text.{part};

@@ -1,11 +1,11 @@
 -- Stores given as arguments, each `name:mode` with the Rust's names of modes. Not of document 01. Assumes nothing.
-use Prim.Native.Nat.{ℕ, suc, _-_, min}
+use Prim.Native.Nat.{ℕ, suc, _-_}
 use Prim.Native.Char.{code}
 use mathlib.Core.Bool.{cond}
 use mathlib.Core.List.{List, [], _∷_}
 use lib.Dec.{eqb, ltb}
 use lib.ListN.{length, take, drop}
-use Rattle.slices.specs.Text.{bytes, runEnd, allAscii, other, endOfLast}
+use Rattle.slices.specs.Text.{bytes, allAscii, endOfLast}
 use Rattle.ascii.specs.Letters.{within, equal}
 use Rattle.store_table.specs.Stores.{Entry, readWrite, readOnly, writeOnly}
 use Rattle.store_args.specs.declared.Fault.{Fault}

@@ -1,7 +1,6 @@
 -- `console::read_text` meets its contract: a read gives no more bytes than there is room for. Assumes nothing.
 use mathlib.Core.Path.{_≡_, ap}
 use Prim.Native.Nat.{_-_, _≤_}
-use native.Mathlib.Omega.{arith}
 use borrow.Author.Needs.{needs}
 use lib.ListN.{length}
 use Rattle.console.specs.Inner.Input.{sizeOf}

@@ -1,6 +1,5 @@
 -- `decide::rule_says_2048` meets its contract: the leaves are said first, then the rule. Assumes nothing.
 use mathlib.Core.Path.{_∙_}
-use Prim.Native.Nat.{_≤_, _+_}
 use native.Mathlib.Omega.{arith}
 use borrow.Author.Needs.{needs}
 use Rattle.image.specs.Inner.Subtree.{rowOf}

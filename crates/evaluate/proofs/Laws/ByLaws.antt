@@ -1,7 +1,6 @@
 -- Leaf answers by index, where they are those of an environment, are what the rule's own leaves say. Assumes nothing.
 use mathlib.Core.Path.{_≡_, refl}
 use mathlib.Core.Bool.{Bool}
-use mathlib.Core.List.{List}
 use Prim.Native.Nat.{ℕ, _+_, _≤_, _<_}
 use native.Mathlib.Omega.{arith}
 use Rattle.rules.specs.Rule.{Leaf, Rule, leaf, node, Rules, nil, more, size, sizes}

@@ -4,7 +4,7 @@ use mathlib.Core.Bool.{Bool}
 use mathlib.Core.List.{List, [], _∷_}
 use lib.Dec.{leb}
 use lib.ListN.{getD}
-use Rattle.rules.specs.Rule.{Rule, leaf, node, Rules, nil, more, size, sizes}
+use Rattle.rules.specs.Rule.{Rule, leaf, node, Rules, nil, more, sizes}
 use Rattle.evaluate.specs.Evict.{joinSays}
 
 unfoldable mutual

@@ -1,7 +1,7 @@
 -- Laws of the nodes that are written: a leaf's with its name, a combinator's. Assumes nothing.
 use mathlib.Core.Path.{_≡_, refl, sym, ap, _∙_}
 use mathlib.Core.List.{List, [], _++_, append-nil}
-use Prim.Native.Nat.{ℕ, _+_, _-_, _*_, _<_}
+use Prim.Native.Nat.{ℕ, _+_, _-_, _<_}
 use native.Mathlib.Nat.{add-zero}
 use native.Mathlib.Omega.{arith}
 use lib.ListN.{length, take, set}

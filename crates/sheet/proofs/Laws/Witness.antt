@@ -1,13 +1,12 @@
 -- The guarantee speaks of something: the sheet's table of two stores is one that it is given for, and the rule that is set where
 -- nothing else is said is safe for it. Assumes nothing.
-use Prim.Native.Nat.{ℕ, zero, suc, _<_}
+use Prim.Native.Nat.{ℕ, zero, suc}
 use mathlib.Core.Path.{_≡_, refl}
 use mathlib.Core.Bool.{true, and-eq-true-iff}
 use mathlib.Core.List.{List, [], _∷_}
 use native.Mathlib.Omega.{arith}
 use borrow.Author.Tests.{leb-true}
 use lib.Dec.{leb}
-use lib.ListN.{getD}
 use Rattle.slices.specs.Text.{bytes, AllBytes, part, run, runEnd, allAscii, other}
 use Rattle.ascii.specs.Letters.{lower, equalBy}
 use Rattle.classes.specs.Class.{classOf, ofClass}

@@ -1,7 +1,6 @@
 -- `safety::check::check_names` meets its contract: the tests are 20, 21 and 22 in their order. Assumes nothing.
 use mathlib.Core.Path.{_≡_, _∙_}
 use mathlib.Core.List.{[]}
-use Prim.Native.Nat.{_≤_, _+_}
 use native.Mathlib.Omega.{arith}
 use borrow.Author.Needs.{needs}
 use Rattle.image.specs.Inner.Subtree.{rowOf}
