@@ -181,7 +181,7 @@ pub fn name_of(image: &[u8], n: usize, arg: u64) -> &[u8]
     requires { ⌜ NameInside (now image) n arg ⌝ }
     ensures { λ r. ⌜ now r ≡ nameOf (now (image .entry)) n arg ⌝ }
 {
-    let start = 4 + 12 * n + name_start(arg) as usize;
-    let end = start + name_length(arg) as usize;
+    let start = 4 + 12 * n + (arg / 65536) as usize;
+    let end = start + (arg % 65536) as usize;
     &image[start..end]
 }

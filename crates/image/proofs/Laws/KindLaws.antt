@@ -4,7 +4,7 @@ use mathlib.Core.Bool.{true, false, true≢false}
 use mathlib.Core.List.{List}
 use Prim.Native.Nat.{ℕ, zero, suc, _≤_, _<_}
 use native.Mathlib.Omega.{arith}
-use borrow.Author.Tests.{leb-true, leb-false}
+use borrow.Author.Tests.{leb-true, leb-false, lt-leb}
 use Rattle.rules.specs.Rule.{Leaf, named, olderThan, readable, Join, atLeast, all, any}
 use Rattle.image.specs.Kinds.{namedKind, olderThanKind, readableKind, atLeastKind, anyKind}
 use Rattle.image.specs.Encode.{leafKind, joinKind, joinArg}
@@ -26,7 +26,7 @@ unfolding isLeaf
 other-kind zero h i j = absurd (h refl)
 other-kind (suc zero) h i j = absurd (i refl)
 other-kind (suc (suc zero)) h i j = absurd (j refl)
-other-kind (suc (suc (suc k))) h i j = refl
+other-kind (suc (suc (suc k))) h i j = lt-leb (suc (suc (suc k))) readableKind (omega arith)
 
 -- nor is a combinator's
 pub join-kind-no-leaf : (k : ℕ) → atLeastKind ≤ k → k ≤ anyKind → isLeaf k ≡ false

@@ -6,6 +6,7 @@ use mathlib.Core.Logic.{⊎-elim}
 use Prim.Native.Nat.{_-_, _*_, _≤_}
 use native.Mathlib.Numerals.{add-one}
 use native.Mathlib.Omega.{arith}
+use borrow.Author.Needs.{needs}
 use Rattle.image.specs.Decode.{nodeAt, nameEnd}
 use Rattle.image.proofs.Laws.NameRunLaws.{name-next, name-other, name-stop}
 use Rattle.image_test.proofs.names_run.Statement.{statement}
@@ -23,17 +24,18 @@ loop-holds c = (omega arith, omega arith, refl)
 
 returns : tie.Need-returns Inv-loop μ-loop
 returns c =
-    name-stop _ _ _ (c .before .before .node-at .ensures) (c .before .before .before .before .loop .inv .2) (omega arith) (omega arith) _ _ (omega arith)
+    let d = c .before .before .before in
+    name-stop _ _ _ (d .node-at .ensures) (d .before .before .loop .inv .2) (omega arith) (omega (arith, c .before .name-start .ensures)) _ _ (omega arith)
 
 loop-again : tie.Need-loop-again Inv-loop μ-loop
 loop-again c =
     let l = c .before .before .before .loop in
     let d = c .before .node-at in (
       omega arith,
-      ⊎-elim (λ v. omega (arith, v .2)) (λ v. omega (arith, v .1)) (c .if1 .came),
+      ⊎-elim (λ v. omega (arith, v .4, v .3 .ensures)) (λ v. omega (arith, v .1)) (c .if1 .came),
       rw add-one
           (⊎-elim
-          (λ v. rw (v .2) (name-next _ _ _ (d .ensures) (l .inv .2) (omega arith) (omega arith)))
+          (λ v. rw (v .4, v .3 .ensures) (name-next _ _ _ (d .ensures) (l .inv .2) (omega arith) (omega (arith, v .1 .ensures, v .2))))
           (λ v. rw (v .1) (name-other _ _ _ (d .ensures) (l .inv .2) (omega arith)))
           (c .if1 .came)),
     )
@@ -52,8 +54,10 @@ names-run-spec =
     μ-loop
     loop-holds
     (λ c κs. omega arith)  -- node-at-requires
+    (λ c κs. search needs)  -- name-start-requires
     returns
-    (λ c. omega arith)  -- add-end
+    (λ c κs. search needs)  -- name-length-requires
+    (λ c. omega (arith, c .name-length .ensures))  -- add-end
     (λ c. omega arith)  -- add-i
     (λ c. omega arith)  -- loop-less
     loop-again
