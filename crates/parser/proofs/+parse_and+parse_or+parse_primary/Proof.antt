@@ -1,7 +1,7 @@
 -- The proof of the cycle of calls {parse_and, parse_or, parse_primary}: the measure is three times the tokens left, and the
 -- function's level. Assumes nothing.
 use mathlib.Core.Path.{refl, sym, ap, _∙_}
-use Prim.Native.Nat.{ℕ, _+_, _*_}
+use Prim.Native.Nat.{ℕ, _+_, _*_, _<_}
 use native.Mathlib.Omega.{arith}
 use borrow.Author.Needs.{needs}
 use borrow.Fn.Kinds.{In}
