@@ -2,8 +2,7 @@
 use mathlib.Core.Path.{_≡_, refl, sym, ap, _∙_}
 use mathlib.Core.List.{List, [], _∷_, _++_}
 use Prim.Native.Nat.{ℕ, zero, suc, _+_, _≤_, _<_}
-use native.Mathlib.Nat.{add-zero, add-suc, add-assoc}
-use native.Mathlib.Numerals.{add-one}
+use native.Mathlib.Nat.{zero-add, suc-add, add-zero, add-assoc}
 use native.Mathlib.Omega.{arith}
 use lib.ListN.{length, take, getD}
 use Rattle.rules.specs.Rule.{named, olderThan, readable, Rule, leaf, node, Rules, nil, more, size, sizes}
@@ -46,14 +45,18 @@ cellNames f s (suc k) = nameIn (f s .what) ∷ cellNames f (suc s) k
 
 cells-more : (f : ℕ → Cell) (s a b : ℕ) → cellNames f s (a + b) ≡ cellNames f s a ++ cellNames f (s + a) b
 unfolding cellNames
-cells-more f s zero b = rw (add-zero)
-cells-more f s (suc a) b = ap (λ (ns : List (List ℕ)). nameIn (f s .what) ∷ ns) (rw (add-suc) (cells-more f (suc s) a b))
+cells-more f s zero b = rw (zero-add, add-zero)
+cells-more f s (suc a) b =
+    let p : s + suc a ≡ suc s + a = omega arith in
+    rw (suc-add, p) (ap (λ (ns : List (List ℕ)). nameIn (f s .what) ∷ ns) (cells-more f (suc s) a b))
 
 cell-name : (f : ℕ → Cell) (s k i : ℕ) → i < k → getD (cellNames f s k) i [] ≡ nameIn (f (s + i) .what)
 unfolding cellNames
 cell-name f s zero i h = absurd (omega arith)
 cell-name f s (suc k) zero h = rw (add-zero)
-cell-name f s (suc k) (suc i) h = cell-name f (suc s) k i (omega arith) ∙ rw (add-suc)
+cell-name f s (suc k) (suc i) h =
+    let p : s + suc i ≡ suc s + i = omega arith in
+    rw p (cell-name f (suc s) k i (omega arith))
 
 cell-past : (f : ℕ → Cell) (s k i : ℕ) → k ≤ i → getD (cellNames f s k) i [] ≡ []
 unfolding cellNames
@@ -61,19 +64,34 @@ cell-past f s zero i h = refl
 cell-past f s (suc k) zero h = absurd (omega arith)
 cell-past f s (suc k) (suc i) h = cell-past f (suc s) k i (omega arith)
 
+one-cell : (f : ℕ → Cell) (s : ℕ) → cellNames f s 1 ≡ nameIn (f s .what) ∷ []
+unfolding cellNames
+one-cell f s = refl
+
+last-cell : (f : ℕ → Cell) (s k : ℕ) → cellNames f s (suc k) ≡ cellNames f s k ++ (nameIn (f (s + k) .what) ∷ [])
+unfolding cellNames
+last-cell f s zero = rw add-zero
+last-cell f s (suc k) =
+    let p : s + suc k ≡ suc s + k = omega arith in
+    rw p (ap (λ (ns : List (List ℕ)). nameIn (f s .what) ∷ ns) (last-cell f (suc s) k))
+
+no-cells : (f : ℕ → Cell) (s : ℕ) → cellNames f s 0 ≡ []
+unfolding cellNames
+no-cells f s = refl
+
 module _ (f : ℕ → Cell) where
   mutual
-    unfolding size EncodedAt cellNames nodeNames
+    unfolding size EncodedAt nodeNames
 
     names-cells : (r : Rule) (s : ℕ) → EncodedAt r f s → nodeNames r ≡ cellNames f s (size r)
-    names-cells (leaf (named w)) s st = rw (st .0)
-    names-cells (leaf (olderThan d)) s st = rw (st .0)
-    names-cells (leaf (readable k)) s st = rw (st .0)
+    names-cells (leaf (named w)) s st = rw (one-cell f s, st .0)
+    names-cells (leaf (olderThan d)) s st = rw (one-cell f s, st .0)
+    names-cells (leaf (readable k)) s st = rw (one-cell f s, st .0)
     names-cells (node j rs r) s st =
-        rw (← add-one, cells-more f s (sizes rs + size r) 1, cells-more f s (sizes rs) (size r), ← names-cells-all rs s (st .0), ← names-cells r (s + sizes rs) (st .1), ← add-assoc, st .2)
+        rw (last-cell f s (sizes rs + size r), ← add-assoc, st .2, cells-more f s (sizes rs) (size r), ← names-cells-all rs s (st .0), ← names-cells r (s + sizes rs) (st .1))
 
     names-cells-all : (rs : Rules) (s : ℕ) → EncodedAllAt rs f s → nodeNamesAll rs ≡ cellNames f s (sizes rs)
-    names-cells-all nil s st = refl
+    names-cells-all nil s st = rw (no-cells f s)
     names-cells-all (more rs r) s st = rw (cells-more f s (sizes rs) (size r), ← names-cells-all rs s (st .0), ← names-cells r (s + sizes rs) (st .1))
 
 -- the name of node i of a whole image
@@ -82,7 +100,7 @@ module _ (s : List ℕ) {n : ℕ} {r : Rule} (w : Whole s n r) where
   all-cells = names-cells (cellAt s n) r 0 (w .stands) ∙ rw (w .sized)
 
   pub name-at : (i : ℕ) → i < n → getD (nodeNames r) i [] ≡ nameIn (cellAt s n i .what)
-  name-at i lt = rw all-cells (cell-name (cellAt s n) 0 n i lt)
+  name-at i lt = rw all-cells (rw zero-add at (cell-name (cellAt s n) 0 n i lt))
 
   pub past-last : (i : ℕ) → n ≤ i → getD (nodeNames r) i [] ≡ []
   past-last i h = rw all-cells (cell-past (cellAt s n) 0 n i h)
