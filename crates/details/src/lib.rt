@@ -1,4 +1,4 @@
-// What a refusal is about: a place in the text, a store, the age at which the rule evicts.
+// What a refusal is about: a place in the text, a node's name, the write-only stores.
 ghost use Prim.Native.Nat.{min, _+_, _≤_};
 ghost use lib.ListN.{length};
 ghost use Rattle.slices.specs.Text.{WrittenAt};
@@ -6,28 +6,24 @@ ghost use Rattle.grammar.specs.Reading.{readOf};
 ghost use Rattle.store_table.specs.Stores.{entriesIn, writeOnlyNames};
 ghost use Rattle.store_table.specs.Inner.Bounds.{TableInBounds};
 ghost use Rattle.lines.specs.Lines.{textEnd, markedLine, shownAll};
-ghost use Rattle.details.specs.Report.{nodeName, ageLine, confirmedLine, confirmedLines, detail};
-ghost use Rattle.details.specs.Inner.Room.{Room};
-use decimal::digits::append_digits;
+ghost use Rattle.page_text.specs.Report.{nodeName, confirmedLines};
 use image::name_of;
 use image::node_at;
 use image::node_count;
 use lines::append_marked;
 use lines::append_shown;
+use page_text::append_confirmed;
 use read::IMAGE_BYTES;
 use read::Reading;
-use refusals::Refusal;
-use slices::append;
 use slices::end_of_last;
 use store_table::WRITE_ONLY;
 use store_table::count_of;
 use store_table::length_at;
 use store_table::mode_at;
 use store_table::names_start;
-use verdict::OLDEST;
 
 // The line of a text that has a place in it, marked there, or after the text's last visible byte.
-fn append_place(page: &mut [u8], at: usize, text: &[u8], place: usize) -> usize
+pub fn append_place(page: &mut [u8], at: usize, text: &[u8], place: usize) -> usize
     requires { ⌜ (length (now text) ≤ 2048) × (at + 4099 ≤ length (now page)) ⌝ }
     ensures { λ r. ⌜ WrittenAt (now (page .entry)) (now (page .exit)) at r (markedLine (now (text .entry)) (min place (textEnd (now (text .entry))))) ⌝ }
 {
@@ -39,7 +35,7 @@ fn append_place(page: &mut [u8], at: usize, text: &[u8], place: usize) -> usize
 }
 
 // The name of a node of the rule that a text reads as, by its index.
-fn append_node(page: &mut [u8], at: usize, text: &[u8], index: usize) -> usize
+pub fn append_node(page: &mut [u8], at: usize, text: &[u8], index: usize) -> usize
     requires { ⌜ at + 26_628 ≤ length (now page) ⌝ }
     ensures { λ r. ⌜ WrittenAt (now (page .entry)) (now (page .exit)) at r (shownAll (nodeName (readOf (now (text .entry))) index)) ⌝ }
 {
@@ -61,28 +57,8 @@ fn append_node(page: &mut [u8], at: usize, text: &[u8], index: usize) -> usize
     at
 }
 
-// The age at which 21 and 22 are tested.
-fn append_age(page: &mut [u8], at: usize) -> usize
-    requires { ⌜ at + 64 ≤ length (now page) ⌝ }
-    ensures { λ r. ⌜ WrittenAt (now (page .entry)) (now (page .exit)) at r ageLine ⌝ }
-{
-    let word_end = append(page, at, b"age: ");
-    let age_end = append_digits(page, word_end, OLDEST);
-    append(page, age_end, b" ms, the largest\n")
-}
-
-// A line with a name that is confirmed.
-fn append_confirmed(page: &mut [u8], at: usize, name: &[u8]) -> usize
-    requires { ⌜ at + length (now name) + 12 ≤ length (now page) ⌝ }
-    ensures { λ r. ⌜ WrittenAt (now (page .entry)) (now (page .exit)) at r (confirmedLine (now (name .entry))) ⌝ }
-{
-    let word_end = append(page, at, b"confirmed: ");
-    let name_end = append_shown(page, word_end, name);
-    append(page, name_end, b"\n")
-}
-
 // A line for each write-only store.
-fn append_write_only(page: &mut [u8], at: usize, stores: &[u8]) -> usize
+pub fn append_write_only(page: &mut [u8], at: usize, stores: &[u8]) -> usize
     requires { ⌜ TableInBounds (now stores) × (at + length (now stores) + 768 ≤ length (now page)) ⌝ }
     ensures { λ r. ⌜ WrittenAt (now (page .entry)) (now (page .exit)) at r (confirmedLines (writeOnlyNames (entriesIn (now (stores .entry))))) ⌝ }
 {
@@ -99,34 +75,4 @@ fn append_write_only(page: &mut [u8], at: usize, stores: &[u8]) -> usize
         k += 1;
     }
     end
-}
-
-// What a refusal of a text for these stores is about.
-pub fn append_detail(page: &mut [u8], at: usize, text: &[u8], stores: &[u8], f: Refusal) -> usize
-    requires { ⌜ Room (now page) at (now text) (now stores) f ⌝ }
-    ensures { λ r. ⌜ WrittenAt (now (page .entry)) (now (page .exit)) at r (detail (now (text .entry)) (entriesIn (now (stores .entry))) f) ⌝ }
-{
-    let number = f.number;
-    let place = f.place;
-    match number {
-        refusals::FOREIGN_BYTE..=refusals::TOO_DEEP => append_place(page, at, text, place),
-        refusals::TWIN_NAME => {
-            let word_end = append(page, at, b"argument ");
-            let digits_end = append_digits(page, word_end, place as u64 + 1);
-            append(page, digits_end, b"\n")
-        }
-        refusals::UNKNOWN_STORE => {
-            let name_end = append_node(page, at, text, place);
-            append(page, name_end, b"\n")
-        }
-        refusals::UNCONFIRMED => {
-            let nothing_end = append(page, at, b"confirmed: nothing\n");
-            append_age(page, nothing_end)
-        }
-        refusals::ARCHIVE_ONLY => {
-            let names_end = append_write_only(page, at, stores);
-            append_age(page, names_end)
-        }
-        _ => at,
-    }
 }

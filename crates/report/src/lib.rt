@@ -1,46 +1,49 @@
 // What a person is told of a verdict on a text.
-ghost use Prim.Native.Nat.{_+_, _≤_};
 ghost use lib.ListN.{length};
 ghost use Rattle.slices.specs.Text.{WrittenAt};
 ghost use Rattle.store_table.specs.Stores.{entriesIn};
-ghost use Rattle.store_table.specs.Inner.Bounds.{TableInBounds};
-ghost use Rattle.details.specs.Report.{verdictLine, passLine, verdictText};
-ghost use Rattle.details.specs.Inner.Room.{Ready};
-use details::append_detail;
+ghost use Rattle.page_text.specs.Report.{detail, verdictText};
+ghost use Rattle.page_text.specs.Inner.Room.{Room, Ready};
+use decimal::digits::append_digits;
+use details::append_node;
+use details::append_place;
+use details::append_write_only;
 use lines::append_meaning;
-use read_line::append_refusal;
+use page_text::append_age;
+use page_text::append_pass;
+use page_text::append_verdict;
+use refusals::Refusal;
 use slices::append;
-use store_table::count_of;
 use verdict::Verdict;
 
-// The first line.
-fn append_verdict(page: &mut [u8], at: usize, v: Verdict) -> usize
-    requires { ⌜ at + 45 ≤ length (now page) ⌝ }
-    ensures { λ r. ⌜ WrittenAt (now (page .entry)) (now (page .exit)) at r (verdictLine v) ⌝ }
+// What a refusal of a text for these stores is about.
+fn append_detail(page: &mut [u8], at: usize, text: &[u8], stores: &[u8], f: Refusal) -> usize
+    requires { ⌜ Room (now page) at (now text) (now stores) f ⌝ }
+    ensures { λ r. ⌜ WrittenAt (now (page .entry)) (now (page .exit)) at r (detail (now (text .entry)) (entriesIn (now (stores .entry))) f) ⌝ }
 {
-    match v {
-        Verdict::Pass => append(page, at, b"pass\n"),
-        Verdict::Refused(f) => append_refusal(page, at, f),
+    let number = f.number;
+    let place = f.place;
+    match number {
+        refusals::FOREIGN_BYTE..=refusals::TOO_DEEP => append_place(page, at, text, place),
+        refusals::TWIN_NAME => {
+            let word_end = append(page, at, b"argument ");
+            let digits_end = append_digits(page, word_end, place as u64 + 1);
+            append(page, digits_end, b"\n")
+        }
+        refusals::UNKNOWN_STORE => {
+            let name_end = append_node(page, at, text, place);
+            append(page, name_end, b"\n")
+        }
+        refusals::UNCONFIRMED => {
+            let nothing_end = append(page, at, b"confirmed: nothing\n");
+            append_age(page, nothing_end)
+        }
+        refusals::ARCHIVE_ONLY => {
+            let names_end = append_write_only(page, at, stores);
+            append_age(page, names_end)
+        }
+        _ => at,
     }
-}
-
-// What a pass means: nothing was checked where there are no stores.
-fn append_pass(page: &mut [u8], at: usize, stores: &[u8]) -> usize
-    requires { ⌜ TableInBounds (now stores) × (at + 72 ≤ length (now page)) ⌝ }
-    ensures { λ r. ⌜ WrittenAt (now (page .entry)) (now (page .exit)) at r (passLine (entriesIn (now (stores .entry)))) ⌝ }
-{
-    if count_of(stores) < 1 {
-        return append(
-            page,
-            at,
-            b"the rule reads; no stores are given to check it against\n",
-        );
-    }
-    append(
-        page,
-        at,
-        b"at any age, the rule says evict only if a readable store has confirmed\n",
-    )
 }
 
 // A verdict on a text for these stores, and what it means.

@@ -10,7 +10,7 @@ use Rattle.image.specs.Kinds.{namedKind}
 use Rattle.image.specs.Inner.Subtree.{NameInside}
 use Rattle.image.proofs.Laws.CellLaws.{name-inside}
 use Rattle.read.proofs.Laws.FoundLaws.{Found, read-refused, read-rule}
-use Rattle.details.proofs.Laws.NodeNameLaws.{taken-short, taken-whole, name-past, name-here, name-not}
+use Rattle.page_text.proofs.Laws.NodeNameLaws.{taken-short, taken-whole, name-past, name-here, name-not}
 use borrow.Author.Needs.{needs}
 use Rattle.details.proofs.append_node.Statement.{statement}
 use Rattle.details.proofs.append_node.Tie as tie

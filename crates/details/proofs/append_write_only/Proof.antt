@@ -5,7 +5,7 @@ use native.Mathlib.Omega.{arith}
 use borrow.Author.Needs.{needs}
 use lib.ListN.{length}
 use Rattle.store_table.proofs.Laws.WalkLaws.{standing-within}
-use Rattle.details.proofs.Laws.ReportLaws.{Named, named-start, named-length, named-end, named-room, named-no, named-yes}
+use Rattle.page_text.proofs.Laws.ReportLaws.{Named, named-start, named-length, named-end, named-room, named-no, named-yes}
 use Rattle.details.proofs.append_write_only.Statement.{statement}
 use Rattle.details.proofs.append_write_only.Tie as tie
 

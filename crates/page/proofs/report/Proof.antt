@@ -4,8 +4,8 @@ use mathlib.Core.Path.{sym, _∙_}
 use native.Mathlib.Omega.{arith}
 use lib.Seq.{length-take-le}
 use Rattle.slices.proofs.Laws.WrittenLaws.{written-at-none}
-use Rattle.details.proofs.Laws.RefusalBoundsLaws.{judged-bounds}
-use Rattle.page.proofs.Laws.PageLaws.{Given, given, page-short, page-many, page-wrong, page-judged}
+use Rattle.page_text.proofs.Laws.RefusalBoundsLaws.{judged-bounds}
+use Rattle.page_text.proofs.Laws.PageLaws.{Given, given, page-short, page-many, page-wrong, page-judged}
 use borrow.Author.Needs.{needs}
 use Rattle.page.proofs.report.Statement.{statement}
 use Rattle.page.proofs.report.Tie as tie

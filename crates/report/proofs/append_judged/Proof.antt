@@ -2,7 +2,7 @@
 use native.Mathlib.Omega.{arith}
 use borrow.Author.Needs.{needs}
 use Rattle.slices.proofs.Laws.WrittenLaws.{written-at-after}
-use Rattle.details.proofs.Laws.ShortLaws.{verdict-short, meaning-short}
+use Rattle.page_text.proofs.Laws.ShortLaws.{verdict-short, meaning-short}
 use Rattle.report.proofs.append_judged.Statement.{statement}
 use Rattle.report.proofs.append_judged.Tie as tie
 

@@ -1,7 +1,7 @@
--- `report::append_verdict` meets its contract: the verdict is one of the two cases, and each has its own line. Assumes nothing.
+-- `page_text::append_verdict` meets its contract: the verdict is one of the two cases, and each has its own line. Assumes nothing.
 use borrow.Author.Needs.{needs}
-use Rattle.report.proofs.append_verdict.Statement.{statement}
-use Rattle.report.proofs.append_verdict.Tie as tie
+use Rattle.page_text.proofs.append_verdict.Statement.{statement}
+use Rattle.page_text.proofs.append_verdict.Tie as tie
 
 returns : tie.Need-returns
 returns c = let a = c .before .before in rw (a .before .before .before .enum-told .given .1) (a .append .ensures)

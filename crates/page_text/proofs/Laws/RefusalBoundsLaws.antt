@@ -13,7 +13,7 @@ use Rattle.parse_text.proofs.Laws.ParseTextLaws.{read-long}
 use Rattle.verdict.specs.declared.Verdict.the-variants.{Refused}
 use Rattle.verdict.specs.Check.{judgeOf}
 use Rattle.verdict.proofs.Laws.PlaceLaws.{judge-placed}
-use Rattle.details.specs.Inner.Room.{RefusalBounds}
+use Rattle.page_text.specs.Inner.Room.{RefusalBounds}
 
 -- a long text gets 2
 long-2 : (text s : List ℕ) (f : Refusal) → judgeOf text s ≡ Refused f → 2048 < length text → f .number ≡ longText

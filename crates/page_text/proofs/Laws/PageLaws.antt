@@ -13,7 +13,7 @@ use Rattle.store_table.specs.TableBytes.{tableOf}
 use Rattle.store_table.proofs.Laws.TableBytesLaws.{table-length, sum-few, table-of, table-laid}
 use Rattle.verdict.specs.declared.Verdict.{Verdict}
 use Rattle.verdict.specs.Check.{judgeOf}
-use Rattle.details.specs.Report.{verdictText}
+use Rattle.page_text.specs.Report.{verdictText}
 use Rattle.store_args.specs.declared.Fault.{Fault}
 use Rattle.store_args.specs.declared.Fault.the-variants.{NoColon, NoMode, LongName, ForeignName}
 use Rattle.store_args.specs.declared.Made.{Made}
@@ -21,7 +21,7 @@ use Rattle.store_args.specs.declared.Made.the-variants.{Table}
 use Rattle.store_args.specs.Arguments.{stores, wrongAt, argumentsIn, storesIn}
 use Rattle.store_args.proofs.Laws.ArgumentsLaws.{stores-fit, stores-many}
 use Rattle.store_args.specs.Inner.Filling.{MadeOf}
-use Rattle.page.specs.Page.{faultText, argumentLine, judgedText, reportOf, pageOf}
+use Rattle.page_text.specs.Page.{faultText, argumentLine, judgedText, reportOf, pageOf}
 
 pub fault-short : (f : Fault) → length (faultText f) ≤ 64
 fault-short NoColon = omega arith

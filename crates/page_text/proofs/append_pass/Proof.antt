@@ -1,11 +1,11 @@
--- `report::append_pass` meets its contract: there are as many stores as the table counts. Assumes nothing.
+-- `page_text::append_pass` meets its contract: there are as many stores as the table counts. Assumes nothing.
 use native.Mathlib.Omega.{arith}
 use Rattle.store_table.specs.Stores.{entriesIn}
 use Rattle.store_table.proofs.Laws.WalkLaws.{length-entries}
-use Rattle.details.proofs.Laws.PassLaws.{pass-none, pass-some}
+use Rattle.page_text.proofs.Laws.PassLaws.{pass-none, pass-some}
 use borrow.Author.Needs.{needs}
-use Rattle.report.proofs.append_pass.Statement.{statement}
-use Rattle.report.proofs.append_pass.Tie as tie
+use Rattle.page_text.proofs.append_pass.Statement.{statement}
+use Rattle.page_text.proofs.append_pass.Tie as tie
 
 returns : tie.Need-returns
 returns c =

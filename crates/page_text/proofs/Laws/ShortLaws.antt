@@ -23,8 +23,8 @@ use Rattle.store_table.specs.Inner.Bounds.{TableInBounds}
 use Rattle.verdict.specs.declared.Verdict.{Verdict}
 use Rattle.verdict.specs.declared.Verdict.the-variants.{Pass, Refused}
 use Rattle.image.proofs.Laws.InsideLaws.{Whole, decode-whole}
-use Rattle.details.specs.Report.{verdictLine, nodeNames, nodeName, confirmedLines}
-use Rattle.details.proofs.Laws.NodeNameLaws.{nameIn, unnamed, name-at, past-last}
+use Rattle.page_text.specs.Report.{verdictLine, nodeNames, nodeName, confirmedLines}
+use Rattle.page_text.proofs.Laws.NodeNameLaws.{nameIn, unnamed, name-at, past-last}
 
 -- ---- the first line
 pub verdict-short : (v : Verdict) → length (verdictLine v) ≤ 45

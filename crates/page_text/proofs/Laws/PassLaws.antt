@@ -7,7 +7,7 @@ use lib.ListN.{length}
 use Rattle.slices.specs.Text.{bytes}
 use Rattle.lines.specs.Lines.{lineEnd}
 use Rattle.store_table.specs.Stores.{Entry}
-use Rattle.details.specs.Report.{passLine}
+use Rattle.page_text.specs.Report.{passLine}
 
 -- without stores
 abbrev pub unchecked : List ℕ

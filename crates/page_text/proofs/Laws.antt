@@ -3,3 +3,4 @@ pub mod RefusalBoundsLaws
 pub mod PassLaws
 pub mod ReportLaws
 pub mod ShortLaws
+pub mod PageLaws

@@ -1,4 +1,4 @@
--- `details::append_age` meets its contract: three parts in a row. Assumes nothing.
+-- `page_text::append_age` meets its contract: three parts in a row. Assumes nothing.
 use mathlib.Core.List.{append-assoc}
 use Prim.Native.Nat.{_≤_}
 use native.Mathlib.Omega.{arith}
@@ -7,8 +7,8 @@ use lib.ListN.{length}
 use Rattle.slices.proofs.Laws.WrittenLaws.{written-at-after}
 use Rattle.decimal.proofs.Laws.DigitsLaws.{digits-short}
 use Rattle.verdict.specs.Check.{oldest}
-use Rattle.details.proofs.append_age.Statement.{statement}
-use Rattle.details.proofs.append_age.Tie as tie
+use Rattle.page_text.proofs.append_age.Statement.{statement}
+use Rattle.page_text.proofs.append_age.Tie as tie
 
 append-requires-2 : tie.Need-append-requires-2
 append-requires-2 c κs = omega (arith, digits-short oldest)

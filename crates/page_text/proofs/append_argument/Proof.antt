@@ -1,14 +1,14 @@
--- `page::append_argument` meets its contract: five parts in a row. Assumes nothing.
+-- `page_text::append_argument` meets its contract: five parts in a row. Assumes nothing.
 use mathlib.Core.List.{append-assoc}
 use Prim.Native.Nat.{_≤_}
 use native.Mathlib.Omega.{arith}
 use lib.ListN.{length}
 use Rattle.slices.proofs.Laws.WrittenLaws.{written-at-after}
 use Rattle.decimal.proofs.Laws.DigitsLaws.{digits-short}
-use Rattle.page.proofs.Laws.PageLaws.{fault-short}
+use Rattle.page_text.proofs.Laws.PageLaws.{fault-short}
 use borrow.Author.Needs.{needs}
-use Rattle.page.proofs.append_argument.Statement.{statement}
-use Rattle.page.proofs.append_argument.Tie as tie
+use Rattle.page_text.proofs.append_argument.Statement.{statement}
+use Rattle.page_text.proofs.append_argument.Tie as tie
 
 append-requires-2 : tie.Need-append-requires-2
 append-requires-2 c κs = omega (arith, digits-short (c .before .before .before .before .before .before .before .before .before .before .before .before .args .index))

@@ -10,7 +10,7 @@ use Rattle.lines.specs.Lines.{lineEnd}
 use Rattle.store_table.specs.Stores.{Entry}
 use Rattle.store_table.specs.TableBytes.{tableOf}
 use Rattle.verdict.specs.Check.{judgeOf}
-use Rattle.details.specs.Report.{detail, verdictText}
+use Rattle.page_text.specs.Report.{detail, verdictText}
 use Rattle.store_args.specs.declared.Fault.{Fault}
 use Rattle.store_args.specs.declared.Fault.the-variants.{NoColon, NoMode, LongName, ForeignName}
 use Rattle.store_args.specs.Arguments.{Stores, stores, wrongAt, argumentsIn, storesIn}

@@ -17,8 +17,8 @@ use Rattle.store_table.specs.Stores.{Entry, writeOnly, namesStart, countIn, ent
 use Rattle.store_table.specs.Inner.Bounds.{TableInBounds}
 use Rattle.store_table.specs.Inner.Index.{EntryWalk, EntryAt, lengthAt}
 use Rattle.store_table.proofs.Laws.WalkLaws.{length-entries, standing-start, standing-next, standing-here, entryAt}
-use Rattle.details.specs.Report.{confirmedLine, confirmedLines, detail}
-use Rattle.details.proofs.Laws.ShortLaws.{lines-short}
+use Rattle.page_text.specs.Report.{confirmedLine, confirmedLines, detail}
+use Rattle.page_text.proofs.Laws.ShortLaws.{lines-short}
 
 -- a number that is not between two others
 outside : (lo hi b : ℕ) → (lo ≤ b → b ≤ hi → ⊥) → within lo hi b ≡ false

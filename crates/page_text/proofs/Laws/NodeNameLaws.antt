@@ -15,7 +15,7 @@ use Rattle.grammar.proofs.Laws.FitsLaws.{read-decodes, read-length}
 use Rattle.image.proofs.Laws.InsideLaws.{Whole, decode-whole}
 use Rattle.image.proofs.Laws.KindLaws.{no-name}
 use Rattle.image.proofs.Laws.CellLaws.{cell-what}
-use Rattle.details.specs.Report.{nodeNames, nodeNamesAll, nodeName}
+use Rattle.page_text.specs.Report.{nodeNames, nodeNamesAll, nodeName}
 use Rattle.read.proofs.Laws.FoundLaws.{Found}
 
 -- ---- the name of a cell; what is no name has none

@@ -1,4 +1,4 @@
--- `details::append_confirmed` meets its contract: three parts in a row. Assumes nothing.
+-- `page_text::append_confirmed` meets its contract: three parts in a row. Assumes nothing.
 use mathlib.Core.List.{append-assoc}
 use Prim.Native.Nat.{_≤_}
 use native.Mathlib.Omega.{arith}
@@ -6,8 +6,8 @@ use borrow.Author.Needs.{needs}
 use lib.ListN.{length}
 use Rattle.slices.proofs.Laws.WrittenLaws.{written-at-after}
 use Rattle.lines.proofs.Laws.LinesLaws.{shown-length}
-use Rattle.details.proofs.append_confirmed.Statement.{statement}
-use Rattle.details.proofs.append_confirmed.Tie as tie
+use Rattle.page_text.proofs.append_confirmed.Statement.{statement}
+use Rattle.page_text.proofs.append_confirmed.Tie as tie
 
 append-requires-2 : tie.Need-append-requires-2
 append-requires-2 c κs = omega (arith, shown-length (c .before .before .before .before .before .before .before .before .before .before .before .before .before .args .name .now))

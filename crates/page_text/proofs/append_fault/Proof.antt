@@ -1,7 +1,7 @@
--- `page::append_fault` meets its contract: each fault has its own words. Assumes nothing.
+-- `page_text::append_fault` meets its contract: each fault has its own words. Assumes nothing.
 use borrow.Author.Needs.{needs}
-use Rattle.page.proofs.append_fault.Statement.{statement}
-use Rattle.page.proofs.append_fault.Tie as tie
+use Rattle.page_text.proofs.append_fault.Statement.{statement}
+use Rattle.page_text.proofs.append_fault.Tie as tie
 
 returns : tie.Need-returns
 returns c = let a = c .before .before in rw (a .before .before .before .enum-told .given .1) (a .append .ensures)

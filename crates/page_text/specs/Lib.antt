@@ -1,2 +1,3 @@
 pub mod Report
 pub mod Inner
+pub mod Page

@@ -1,4 +1,4 @@
--- `details::append_detail` meets its contract: by the number, a refusal has its own parts in a row, or none. Assumes nothing.
+-- `report::append_detail` meets its contract: by the number, a refusal has its own parts in a row, or none. Assumes nothing.
 use mathlib.Core.List.{append-assoc}
 use Prim.Native.Nat.{_+_, _≤_}
 use native.Mathlib.Numerals.{add-one}
@@ -12,11 +12,11 @@ use Rattle.decimal.proofs.Laws.DigitsLaws.{digits-short}
 use Rattle.lines.proofs.Laws.LinesLaws.{shown-length}
 use Rattle.grammar.specs.Reading.{readOf}
 use Rattle.store_table.specs.Stores.{entriesIn}
-use Rattle.details.specs.Report.{nodeName, detail}
-use Rattle.details.proofs.Laws.ReportLaws.{detail-none}
-use Rattle.details.proofs.Laws.ShortLaws.{name-short, lines-short}
-use Rattle.details.proofs.append_detail.Statement.{statement}
-use Rattle.details.proofs.append_detail.Tie as tie
+use Rattle.page_text.specs.Report.{nodeName, detail}
+use Rattle.page_text.proofs.Laws.ReportLaws.{detail-none}
+use Rattle.page_text.proofs.Laws.ShortLaws.{name-short, lines-short}
+use Rattle.report.proofs.append_detail.Statement.{statement}
+use Rattle.report.proofs.append_detail.Tie as tie
 
 -- there is no more to say of another number
 no-more : (c : tie.At-match-rest) →
