@@ -19,7 +19,7 @@ fn part_size(k: u64, unit: &[u8]) -> usize
     digit_count(k) + unit.len()
 }
 
-// How many bytes a duration prints as.
+// How many bytes a duration prints as; one of whole days has no part but days.
 pub fn duration_size(ms: u64) -> usize
     ensures { λ r. ⌜ r ≡ length (durationText ms) ⌝ }
 {
@@ -27,6 +27,9 @@ pub fn duration_size(ms: u64) -> usize
         return 2;
     }
     let days = part_size(ms / 86_400_000, b"d");
+    if ms % 86_400_000 == 0 {
+        return days;
+    }
     let hours = part_size(ms / 3_600_000 % 24, b"h");
     let minutes = part_size(ms / 60_000 % 60, b"m");
     let seconds = part_size(ms / 1_000 % 60, b"s");

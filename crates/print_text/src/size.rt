@@ -1,5 +1,6 @@
 // How many bytes the text of a rule has.
 ghost use mathlib.Core.Path.{_≡_};
+ghost use mathlib.Core.Bool.{false};
 ghost use Prim.Native.Nat.{_+_, _≤_};
 ghost use lib.ListN.{length};
 ghost use Rattle.rules.specs.Rule.{Rule};
@@ -65,14 +66,21 @@ fn after_size(kind: u32, last: bool) -> usize
     }
 }
 
-// The bytes around a child's own text: brackets, and what comes after it.
-fn around_size(kind: u32, child: u32, last: bool) -> usize
+// The bytes around a child's own text: brackets, and what comes after it. `between` is what comes after each child but the last.
+fn around_size(kind: u32, child: u32, last: bool, between: usize) -> usize
+    requires { ⌜ between ≡ length (afterChildOf kind false) ⌝ }
     ensures { λ r. ⌜ r ≡ length (frontOf kind child) + length (backOf kind child last) ⌝ }
 {
     if is_bracketed(kind, child) {
-        return 2 + after_size(kind, last);
+        if last {
+            return 2 + after_size(kind, last);
+        }
+        return 2 + between;
     }
-    after_size(kind, last)
+    if last {
+        return after_size(kind, last);
+    }
+    between
 }
 
 // The bytes of the rule whose nodes are the `size` from `from` on: the size falls at each call.
@@ -89,10 +97,11 @@ pub fn text_size(image: &[u8], n: usize, from: usize, size: usize) -> usize
     }
     let mut end = at;
     let mut total = opening_size(kind, arg);
+    let between = after_size(kind, false);
     while from < end {
         let child = node_at(image, n, end - 1);
         let back = child.size;
-        total += around_size(kind, child.kind, end == at);
+        total += around_size(kind, child.kind, end == at, between);
         end -= back;
         if is_leaf(child.kind) {
             total += leaf_size(image, n, child.kind, child.arg);

@@ -1,6 +1,7 @@
--- Laws of printed durations: a part that is zero and one that is not, the parts in a row, and how long they are at most. Assumes nothing.
-use mathlib.Core.Path.{_≡_, refl}
-use mathlib.Core.List.{List, [], _++_}
+-- Laws of printed durations: a part that is zero and one that is not, the parts in a row, whole days, and how long
+-- they are at most. Assumes nothing.
+use mathlib.Core.Path.{_≡_, refl, _∙_}
+use mathlib.Core.List.{List, [], _++_, append-nil}
 use mathlib.Core.Logic.{_≢_}
 use Prim.Native.Nat.{ℕ, zero, suc, _+_, _≤_, _/_, _%_}
 use native.Mathlib.Omega.{arith}
@@ -65,6 +66,15 @@ duration-parts (suc k) e = refl
 -- and as long as they are
 pub duration-length : (ms : ℕ) → ms ≢ 0 → length (durationText ms) ≡ length (daysText ms) + length (hoursText ms) + length (minutesText ms) + length (secondsText ms) + length (millisText ms)
 duration-length ms e = rw (duration-parts ms e) (simp length-append (omega arith))
+
+-- one of whole days has no part but days
+pub duration-days : (ms : ℕ) → ms ≢ 0 → ms % 86_400_000 ≡ 0 → durationText ms ≡ daysText ms
+duration-days ms e whole =
+    let hours = part-zero (bytes "h") (ms / 3_600_000 % 24) (omega arith) in
+    let minutes = part-zero (bytes "m") (ms / 60_000 % 60) (omega arith) in
+    let seconds = part-zero (bytes "s") (ms / 1_000 % 60) (omega arith) in
+    let millis = part-zero (bytes "ms") (ms % 1_000) (omega arith) in
+    duration-parts ms e ∙ rw (hours, minutes, seconds, millis, append-nil)
 
 -- at most 20 digits and a unit for each of five parts
 pub duration-short : (ms : ℕ) → length (durationText ms) ≤ 110

@@ -22,6 +22,7 @@ use Rattle.print_text.proofs.size.+text_size.Lts-text_size as text-size
 use Rattle.image.proofs.is_leaf.Reads as is-leaf-reads
 use Rattle.image.proofs.node_at.Reads as node-at-reads
 use Rattle.print_text.proofs.size.around_size.Reads as around-size-reads
+use Rattle.print_text.proofs.size.after_size.Reads as after-size-reads
 use Rattle.print_text.proofs.size.leaf_size.Reads as leaf-size-reads
 use Rattle.print_text.proofs.size.opening_size.Reads as opening-size-reads
 use Rattle.print_text.proofs.size.+text_size.{statement}
@@ -39,14 +40,14 @@ text-size-below t =
 
 -- what the callees ask and give
 abbrev given : ℕ → text-size-lts.Claims
-given t = (node-at-reads.Asked, node-at-reads.Learnt, is-leaf-reads.Asked, is-leaf-reads.Learnt, leaf-size-reads.Asked, leaf-size-reads.Learnt, opening-size-reads.Asked, opening-size-reads.Learnt, around-size-reads.Asked, around-size-reads.Learnt, text-size-below t, text-size.Post)
+given t = (node-at-reads.Asked, node-at-reads.Learnt, is-leaf-reads.Asked, is-leaf-reads.Learnt, leaf-size-reads.Asked, leaf-size-reads.Learnt, opening-size-reads.Asked, opening-size-reads.Learnt, after-size-reads.Asked, after-size-reads.Learnt, around-size-reads.Asked, around-size-reads.Learnt, text-size-below t, text-size.Post)
 
 abbrev text-size-Inv-loop : text-size-lts.InvT-loop
-text-size-Inv-loop image n from size at kind arg end₀ total₀ end total =
+text-size-Inv-loop image n from size at kind arg end₀ total₀ between end total =
     (end ≤ from + size - 1) × Walks image n kind arg from size end (λ t. total ≡ length (openingOf kind arg) + length t)
 
 abbrev text-size-μ-loop : text-size-lts.MeasureT-loop
-text-size-μ-loop image n from size at kind arg end₀ total₀ end total = end
+text-size-μ-loop image n from size at kind arg end₀ total₀ between end total = end
 
 -- at entry there is a node, and the last one is within the image
 the-node : (t : ℕ) (c : text-size-lts.Start (given t) (text-size-at t) text-size.Post text-size-Inv-loop text-size-μ-loop) → (0 < c .args .size) × (c .args .from + c .args .size ≤ c .args .n)
@@ -79,35 +80,38 @@ text-size-returns t c = λ ρ e st.
 text-size-opening-size-requires : (t : ℕ) → text-size-lts.Need-opening-size-requires (given t) (text-size-at t) text-size.Post text-size-Inv-loop text-size-μ-loop
 text-size-opening-size-requires t c κs = search needs
 
+text-size-after-size-requires : (t : ℕ) → text-size-lts.Need-after-size-requires (given t) (text-size-at t) text-size.Post text-size-Inv-loop text-size-μ-loop
+text-size-after-size-requires t c κs = search needs
+
 text-size-loop-holds : (t : ℕ) → text-size-lts.Need-loop-holds (given t) (text-size-at t) text-size.Post text-size-Inv-loop text-size-μ-loop
-text-size-loop-holds t c = (omega arith, walks-start _ _ _ _ _ (c .before .before .before .node-at .ensures) (omega (arith, the-node t (c .before .before .before .before .before))) (sym (c .before .before .is-leaf .ensures) ∙ c .before .if1 .left) (omega arith))
+text-size-loop-holds t c = (omega arith, walks-start _ _ _ _ _ (c .before .before .before .before .node-at .ensures) (omega (arith, the-node t (c .before .before .before .before .before .before))) (sym (c .before .before .before .is-leaf .ensures) ∙ c .before .before .if1 .left) (omega arith))
 
 text-size-sub-node-at : (t : ℕ) → text-size-lts.Need-sub-node-at (given t) (text-size-at t) text-size.Post text-size-Inv-loop text-size-μ-loop
 text-size-sub-node-at t c = omega arith
 
 text-size-node-at-requires-2 : (t : ℕ) → text-size-lts.Need-node-at-requires-2 (given t) (text-size-at t) text-size.Post text-size-Inv-loop text-size-μ-loop
 text-size-node-at-requires-2 t c κs =
-    let s = c .before .before .before .before .before .before .before in
+    let s = c .before .before .before .before .before .before .before .before in
     (s .pre .1 .0 .long, omega (arith, c .before .loop .inv .0, the-node t s))
 
 -- the child that a turn counts
 the-turn : (t : ℕ) (c : text-size-lts.After-node-at2 (given t) (text-size-at t) text-size.Post text-size-Inv-loop text-size-μ-loop) →
-    let s = c .before .before .before .before .before .before .before .before in
-    let d = c .before .before .before .before .before .before .node-at .result in
+    let s = c .before .before .before .before .before .before .before .before .before in
+    let d = c .before .before .before .before .before .before .before .node-at .result in
     let total = c .before .before .loop .total in
     Turn (s .args .image .now) (s .args .n) (d .kind) (d .arg) (s .args .from) (s .args .size) (c .before .before .loop .end) (λ t. total ≡ length (openingOf (d .kind) (d .arg)) + length t) (s .pre .1 .0 .here .rule) (nodeOf (c .node-at2 .result))
 the-turn t c =
-    let h = c .before .before .before .before .before .before .before .before .pre .1 .0 .here in
+    let h = c .before .before .before .before .before .before .before .before .before .pre .1 .0 .here in
     let i = c .before .before .loop .inv in
     turn _ _ _ _ _ (i .1) (i .0) (c .before .loop-test .taken) (c .node-at2 .ensures) (h .rule) (h .sized) (h .stands)
 
 text-size-around-size-requires : (t : ℕ) → text-size-lts.Need-around-size-requires (given t) (text-size-at t) text-size.Post text-size-Inv-loop text-size-μ-loop
-text-size-around-size-requires t c κs = search needs
+text-size-around-size-requires t c κs = c .before .before .before .after-size .ensures
 
 -- its bytes fit a number
 the-room : (t : ℕ) (c : text-size-lts.After-around-size (given t) (text-size-at t) text-size.Post text-size-Inv-loop text-size-μ-loop) → c .before .before .before .loop .total + c .around-size .result + length (textOf (the-turn t (c .before) .child)) ≤ 134_348_800
 the-room t c =
-    let s = c .before .before .before .before .before .before .before .before .before in
+    let s = c .before .before .before .before .before .before .before .before .before .before in
     let u = the-turn t (c .before) in
     let h = s .pre .1 .0 .here in
     omega (arith, turn-room _ _ u, u .holds, text-short _ _ (h .rule) _ (h .stands), h .sized, the-node t s, s .pre .1 .1)
@@ -125,7 +129,7 @@ the-less t c = let u = the-turn t (c .before) in omega (arith, u .some, u .fits)
 -- r is how many bytes its own text has
 abbrev Counted : (t : ℕ) (c : text-size-lts.After-around-size (given t) (text-size-at t) text-size.Post text-size-Inv-loop text-size-μ-loop) → ℕ → Type 0
 Counted t c r =
-    let s = c .before .before .before .before .before .before .before .before .before .args in
+    let s = c .before .before .before .before .before .before .before .before .before .before .args in
     let d = c .before .node-at2 .result in
     (q : Rule) → size q ≡ d .size → EncodedAt q (cellAt (s .image .now) (s .n)) (c .before .before .before .loop .end - d .size) → r ≡ length (textOf q)
 
@@ -136,8 +140,8 @@ counted-room t c h =
     omega (arith, the-room t c, h (u .child) (u .sized) (u .stands))
 
 counted-next : (t : ℕ) (c : text-size-lts.After-around-size (given t) (text-size-at t) text-size.Post text-size-Inv-loop text-size-μ-loop) {r : ℕ} → Counted t c r →
-    let s = c .before .before .before .before .before .before .before .before .before .args in
-    let d = c .before .before .before .before .before .before .before .node-at .result in
+    let s = c .before .before .before .before .before .before .before .before .before .before .args in
+    let d = c .before .before .before .before .before .before .before .before .node-at .result in
     let i = c .before .before .before .loop in
     let end = i .end - c .before .node-at2 .result .size in
     (end ≤ s .from + s .size - 1) × Walks (s .image .now) (s .n) (d .kind) (d .arg) (s .from) (s .size) end (λ t. i .total + c .around-size .result + r ≡ length (openingOf (d .kind) (d .arg)) + length t)
@@ -150,7 +154,7 @@ text-size-is-leaf-requires-2 t c κs = search needs
 
 text-size-leaf-size-requires-2 : (t : ℕ) → text-size-lts.Need-leaf-size-requires-2 (given t) (text-size-at t) text-size.Post text-size-Inv-loop text-size-μ-loop
 text-size-leaf-size-requires-2 t c κs =
-    let s = c .before .before .before .before .before .before .before .before .before .before .before in
+    let s = c .before .before .before .before .before .before .before .before .before .before .before .before in
     name-inside _ _ _ (c .before .before .before .node-at2 .ensures) (s .pre .1 .0 .names) (omega (arith, c .before .before .before .before .before .loop .inv .0, the-node t s))
 
 leaf-counted : (t : ℕ) (c : text-size-lts.After-leaf-size2 (given t) (text-size-at t) text-size.Post text-size-Inv-loop text-size-μ-loop) → Counted t (c .before .before .before) (c .leaf-size2 .result)
@@ -170,7 +174,7 @@ text-size-loop-again t c = counted-next t (c .before .before .before) (leaf-coun
 text-size-text-size-requires : (t : ℕ) → text-size-lts.Need-text-size-requires (given t) (text-size-at t) text-size.Post text-size-Inv-loop text-size-μ-loop
 text-size-text-size-requires t c κs =
     let i = c .before .before .before .before .before .loop in
-    let s = c .before .before .before .before .before .before .before .before .before .before .before in
+    let s = c .before .before .before .before .before .before .before .before .before .before .before .before in
     let n = the-node t s in
     let u = the-turn t (c .before .before .before) in
     let p = u .some in
@@ -206,6 +210,7 @@ pub +text-size-spec : {M : Type 1} → statement M
     (text-size-leaf-size-requires t)
     (text-size-returns t)
     (text-size-opening-size-requires t)
+    (text-size-after-size-requires t)
     (text-size-loop-holds t)
     (text-size-sub-node-at t)
     (text-size-node-at-requires-2 t)
