@@ -47,7 +47,8 @@ module _ (s : List ℕ) (at : ℕ) {t : Token} (e : t ≡ tokenAt s at) where
   pub no-sign : (k : ℕ) → T (not (hasKey (others k) k)) → OneOf (others k) (tagOf the-type t) → after k (tokensFrom s at) ≡ missing
   no-sign k h o = after-off s at (sym e) k (not-kind (others k) k h t o)
 
-  pub no-comma-close : OneOf (without comma (others closeBracket)) (tagOf the-type t) → (after comma (tokensFrom s at) ≡ missing) × (after closeBracket (tokensFrom s at) ≡ missing)
+  pub no-comma-close : OneOf (without comma (others closeBracket)) (tagOf the-type t) →
+      (after comma (tokensFrom s at) ≡ missing) × (after closeBracket (tokensFrom s at) ≡ missing)
   no-comma-close o =
       let ks = without comma (others closeBracket) in
       (after-off s at (sym e) comma (not-kind ks comma tt t o), after-off s at (sym e) closeBracket (not-kind ks closeBracket tt t o))

@@ -1,5 +1,7 @@
--- What the proofs by hand of `token_reader` share: how a walk of a function's MIR begins, calls a function that is proved, and ends, where nothing is said of a parameter at exit.
---     Known R          what a walk knows of a type: how a value's machine values are spelled, that the type's relation tells them, and that they have the MIR type
+-- What the proofs by hand of `token_reader` share: how a walk of a function's MIR begins, calls a function that is proved, and
+-- ends, where nothing is said of a parameter at exit.
+-- Known R what a walk knows of a type: how a value's machine values are spelled, that the type's relation tells them, and that
+-- they have the MIR type
 --     apart, together  what a reader owns is what its text and its position own
 --     copies           an operand that is a copy of a local
 --     begins, asks, Ends       a walk from the entry is the function's theorem; a call; how a walk ends
@@ -77,10 +79,15 @@ abbrev pub class : (κ : Lft) → Known (ShrRef (named 1) κ (Array u8 tt 256))
 class κ = record { vals = ptr-vals; tells = shr-tells (named 1) κ (Array u8 tt 256); lawful = λ 𝓤 H A W. shr-lawful 𝓤 H A W (named 1) κ (Array u8 tt 256) }
 
 abbrev pub reader : (α : NamedLft) → Known (T.the-row α)
-reader α = record { vals = LL.vals (T.the-type α) (T′.the-laws α); tells = LL.tells (T.the-type α) (T′.the-laws α); lawful = LL.lawful (T.the-type α) (T′.the-laws α) }
+reader α =
+    record { vals = LL.vals (T.the-type α) (T′.the-laws α); tells = LL.tells (T.the-type α) (T′.the-laws α); lawful = LL.lawful (T.the-type α) (T′.the-laws α) }
 
 abbrev pub token : Known S.the-row
-token = record { vals = EL.vals S.the-type S′.the-laws; tells = EL.tells S.the-type S′.the-laws; lawful = λ 𝓤 H A W. EL.lawful S.the-type S′.the-laws 𝓤 H A W tt }
+token = record {
+  vals = EL.vals S.the-type S′.the-laws;
+  tells = EL.tells S.the-type S′.the-laws;
+  lawful = λ 𝓤 H A W. EL.lawful S.the-type S′.the-laws 𝓤 H A W tt;
+}
 
 -- ---- what a reader owns
 abbrev of-text : NamedLft → WordReader → Fml
@@ -139,7 +146,8 @@ module _ {M : Type 1} (𝓤 : URA M) (H : Heap 𝓤) (A : Atoms 𝓤) (T : Ended
 
     ends : (W : Given 𝓤 H A) → Ends W
     ends W r u ws silent h =
-        updating ! $ at-once ! $ show ! (λ (x : Result .Denot). sep 𝓤 (Back 𝓤 H A (T .signature) (y .0) u x) (ensured 𝓤 H A T c (y .0 .0) (y .0 .3) (y .1) x)) r $
+        updating ! $ at-once ! $
+        show ! (λ (x : Result .Denot). sep 𝓤 (Back 𝓤 H A (T .signature) (y .0) u x) (ensured 𝓤 H A T c (y .0 .0) (y .0 .3) (y .1) x)) r $
         move ! (1 ∷ 0 ∷ []) $ join ! $ frame ! $
         show ! (λ (vs : Last). sep 𝓤 (sem 𝓤 H A (last vs)) (holds r vs)) ws $ use0 W (raw (holds r ws)) h $ pureI ! (last ws) (silent .0) (silent .1) $ done !
 
@@ -179,7 +187,8 @@ module _ {M : Type 1} (𝓤 : URA M) (H : Heap 𝓤) (𝓜 : Model 𝓤 H) (𝓖
     values κs a = valss (Rs κs) (spelled (Rs κs) (ks κs)) a
 
     pub begins : Closed 𝓤 H (tables 𝓤 H 𝓜 𝓡 γ .C) (tables 𝓤 H 𝓜 𝓡 γ .Λ) k fn
-        → ((κs : Lfts (T .signature .lifetimes)) (qs : Shares (T .signature .lifetimes)) (bounds : AllOutlive (T .signature .lifetimes) (T .signature .outlives) κs)
+        → ((κs : Lfts (T .signature .lifetimes)) (qs : Shares (T .signature .lifetimes))
+        (bounds : AllOutlive (T .signature .lifetimes) (T .signature .outlives) κs)
         (a : Args (T .signature) κs) (g : c κs a .ghost)
         → Typed (mirs (Rs κs)) (flat (Rs κs) (values κs a)) → Ends 𝓤 H (𝓖 .A) T c ((κs, qs, bounds, a, values κs a), g) (givenOf 𝓤 H 𝓜 𝓖)
         → Seq (Go {0}) (givenOf 𝓤 H 𝓜 𝓖) (raw (c κs a .requires g) ∷ raw (alive 𝓤 H (𝓖 .A) (T .signature) κs qs) ∷ ‵ (owns (Rs κs) a (values κs a)) ∷ [])

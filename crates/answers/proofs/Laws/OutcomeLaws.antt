@@ -8,8 +8,10 @@ use Rattle.print.specs.declared.Printing.{Printing}
 use Rattle.print.specs.Printed as printing
 use Rattle.answers.specs.Answers.{ofReading, ofPrinting}
 
-pub read-answer : {o : reading.Outcome} {a b : Reading} {i : List ℕ} {n : ℕ} → reading.outcome a i ≡ o → a ≡ b → n ≡ ofReading b → (n ≡ ofReading (o .answer)) × (i ≡ o .image)
+pub read-answer : {o : reading.Outcome} {a b : Reading} {i : List ℕ} {n : ℕ} → reading.outcome a i ≡ o → a ≡ b → n ≡ ofReading b →
+    (n ≡ ofReading (o .answer)) × (i ≡ o .image)
 read-answer e p q = (q ∙ ap ofReading (sym p ∙ ap (λ (x : reading.Outcome). x .answer) e), ap (λ (x : reading.Outcome). x .image) e)
 
-pub print-answer : {o : printing.Outcome} {a b : Printing} {t : List ℕ} {n : ℕ} → printing.outcome a t ≡ o → a ≡ b → n ≡ ofPrinting b → (n ≡ ofPrinting (o .answer)) × (t ≡ o .text)
+pub print-answer : {o : printing.Outcome} {a b : Printing} {t : List ℕ} {n : ℕ} → printing.outcome a t ≡ o → a ≡ b →
+    n ≡ ofPrinting b → (n ≡ ofPrinting (o .answer)) × (t ≡ o .text)
 print-answer e p q = (q ∙ ap ofPrinting (sym p ∙ ap (λ (x : printing.Outcome). x .answer) e), ap (λ (x : printing.Outcome). x .text) e)

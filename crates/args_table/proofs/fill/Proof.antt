@@ -13,7 +13,8 @@ use Rattle.args_table.proofs.fill.Statement.{statement}
 use Rattle.args_table.proofs.fill.Tie as tie
 
 abbrev Inv-loop : tie.InvT-loop
-Inv-loop args modes₀ lengths₀ names₀ k₀ at₀ used₀ modes lengths names k at used = Filling args (arrays modes lengths names) k at used × (length modes ≡ length modes₀) × (length lengths ≡ length lengths₀) × (length names ≡ length names₀)
+Inv-loop args modes₀ lengths₀ names₀ k₀ at₀ used₀ modes lengths names k at used =
+    Filling args (arrays modes lengths names) k at used × (length modes ≡ length modes₀) × (length lengths ≡ length lengths₀) × (length names ≡ length names₀)
 
 abbrev μ-loop : tie.MeasureT-loop
 μ-loop args modes₀ lengths₀ names₀ k₀ at₀ used₀ modes lengths names k at used = length args - at
@@ -22,7 +23,9 @@ loop-holds : tie.Need-loop-holds Inv-loop μ-loop
 loop-holds c = (fill-start _ _, refl, refl, refl)
 
 -- the argument ends after its beginning and within the text
-stop-in : (c : tie.After-mark-at Inv-loop μ-loop) → (c .before .before .loop .at ≤ c .mark-at .result) × (c .mark-at .result ≤ length (c .before .before .before .before .before .before .before .args .args .now))
+stop-in : (c : tie.After-mark-at Inv-loop μ-loop) →
+    let entry = c .before .before .before .before .before .before .before in
+    (c .before .before .loop .at ≤ c .mark-at .result) × (c .mark-at .result ≤ length (entry .args .args .now))
 stop-in c = end-within (other 0) _ _ (omega arith) (c .mark-at .ensures)
 
 sub-fill-one : tie.Need-sub-fill-one Inv-loop μ-loop
@@ -36,26 +39,31 @@ part-fill-one-end c = omega (arith, stop-in c)
 
 fill-one-requires : tie.Need-fill-one-requires Inv-loop μ-loop
 fill-one-requires c κs =
-    let t = c .before .before .before .before .before in
-    let r = fill-room (t .before .loop .inv .0) (t .loop-test .taken) (t .before .before .before .before .before .before .pre .0) in
+    let in-loop = c .before .before .before .before .before in
+    let entry = in-loop .before .before .before .before .before .before in
+    let r = fill-room (in-loop .before .loop .inv .0) (in-loop .loop-test .taken) (entry .pre .0) in
     omega arith
 
 returns : tie.Need-returns Inv-loop μ-loop
 returns c =
-    let f = c .before .before .before .before .before .before .before .before .before in
-    let m = f .before .before .before .before .before in
-    let l = m .before .before .loop .inv .0 in
-    fill-bad l (m .before .loop-test .taken) (m .mark-at .ensures) _ (f .fill-one .ensures .bad _ (c .before .fault .given .1))
+    let after-fill-one = c .before .before .before .before .before .before .before .before .before in
+    let after-mark-at = after-fill-one .before .before .before .before .before in
+    let l = after-mark-at .before .before .loop .inv .0 in
+    fill-bad l (after-mark-at .before .loop-test .taken) (after-mark-at .mark-at .ensures) _
+    (after-fill-one .fill-one .ensures .bad _ (c .before .fault .given .1))
 
 loop-less : tie.Need-loop-less Inv-loop μ-loop
-loop-less c = let t = c .before .before .before .before .before .before .before .before .before .before .before .before .before .before .before .before in walk-less (t .before .loop .inv .0 .walk) (t .loop-test .taken) (c .next-arg .ensures)
+loop-less c =
+    let in-loop = c .before .before .before .before .before .before .before .before .before .before .before .before .before .before .before .before in
+    walk-less (in-loop .before .loop .inv .0 .walk) (in-loop .loop-test .taken) (c .next-arg .ensures)
 
 loop-again : tie.Need-loop-again Inv-loop μ-loop
 loop-again c =
-    let f = c .before .before .before .before .before .before .before .before .before .before in
-    let m = f .before .before .before .before .before in
-    let l = m .before .before .loop .inv .0 in (
-      fill-on l (m .before .loop-test .taken) (m .mark-at .ensures) (f .fill-one .ensures) (c .before .before .end .given .1) (c .next-arg .ensures) (fill-one-requires (f .before) (f .fill-one .lifetimes)),
+    let after-fill-one = c .before .before .before .before .before .before .before .before .before .before in
+    let after-mark-at = after-fill-one .before .before .before .before .before in
+    let l = after-mark-at .before .before .loop .inv .0 in (
+      fill-on l (after-mark-at .before .loop-test .taken) (after-mark-at .mark-at .ensures) (after-fill-one .fill-one .ensures)
+          (c .before .before .end .given .1) (c .next-arg .ensures) (fill-one-requires (after-fill-one .before) (after-fill-one .fill-one .lifetimes)),
       search needs,
       search needs,
       search needs,

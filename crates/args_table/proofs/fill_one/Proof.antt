@@ -10,7 +10,9 @@ use Rattle.args_table.proofs.fill_one.Statement.{statement}
 use Rattle.args_table.proofs.fill_one.Tie as tie
 
 -- where the name ends
-the-end : (c : tie.After-mode) → (c .mode .given .0 .1 .0 ≤ 255) × (c .mode .given .0 .1 .0 ≤ length (c .before .before .before .before .before .before .before .args .arg .now))
+the-end : (c : tie.After-mode) →
+    let entry = c .before .before .before .before .before .before .before in
+    (c .mode .given .0 .1 .0 ≤ 255) × (c .mode .given .0 .1 .0 ≤ length (entry .args .arg .now))
 the-end c = c .before .before .given-by .ensures .short _ _ (c .mode .given .1)
 
 cast-lengths : tie.Need-cast-lengths
@@ -29,8 +31,8 @@ returns c = one-wrong (c .before .before .before .given-by .ensures) _ _ _ (c .b
 
 returns-2 : tie.Need-returns-2
 returns-2 c =
-    let m = c .before .before .before .before .before .before in
-    one-store (m .before .before .given-by .ensures) _ _ _ _ _ (m .mode .given .1) _ _ (c .before .before .append .ensures)
+    let after-mode = c .before .before .before .before .before .before in
+    one-store (after-mode .before .before .given-by .ensures) _ _ _ _ _ (after-mode .mode .given .1) _ _ (c .before .before .append .ensures)
 
 pub fill-one-spec : {M : Type 1} → statement M
 fill-one-spec =

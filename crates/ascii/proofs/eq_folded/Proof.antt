@@ -25,12 +25,14 @@ loop-holds c = refl
 returns-2 : tie.Need-returns-2 Inv-loop μ-loop
 returns-2 c =
     let l = c .before .before .before .before .before .before .loop in
-    sym (equal-off _ _ _ (l .i) (omega arith) (omega arith) (is-not (c .before .before .before .folded .ensures) (c .before .folded2 .ensures) (c .if2 .taken))) ∙ l .inv
+    sym (equal-off _ _ _ (l .i) (omega arith) (omega arith)
+    (is-not (c .before .before .before .folded .ensures) (c .before .folded2 .ensures) (c .if2 .taken))) ∙ l .inv
 
 loop-again : tie.Need-loop-again Inv-loop μ-loop
 loop-again c =
     let l = c .before .before .before .before .before .before .loop in
-    sym (equal-on _ _ _ (l .i) (omega arith) (omega arith) (is-so (c .before .before .before .folded .ensures) (c .before .folded2 .ensures) (c .if2 .left))) ∙ l .inv
+    sym (equal-on _ _ _ (l .i) (omega arith) (omega arith) (is-so (c .before .before .before .folded .ensures) (c .before .folded2 .ensures) (c .if2 .left)))
+    ∙ l .inv
 
 returns-3 : tie.Need-returns-3 Inv-loop μ-loop
 returns-3 c = let l = c .before .loop in sym (equal-end _ _ _ (l .i) (omega arith) (omega arith)) ∙ l .inv

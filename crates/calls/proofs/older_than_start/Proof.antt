@@ -34,8 +34,8 @@ returns-2 c =
 
 word-of-requires : tie.Need-word-of-requires
 word-of-requires c κs =
-    let t = c .before .before .before .before .before in
-    let w = word-part _ _ (sym (t .before .before .token-at .ensures) ∙ t .t .given .1) in
+    let after-t = c .before .before .before .before .before in
+    let w = word-part _ _ (sym (after-t .before .before .token-at .ensures) ∙ after-t .t .given .1) in
     omega arith
 
 returns-3 : tie.Need-returns-3

@@ -23,16 +23,17 @@ returns-2 : tie.Need-returns-2
 returns-2 c =
     let p = c .before .before in
     let l = p .before .before .before .before .before in
-    let s = l .before .before .before in
+    let entry = l .before .before .before in
     let t = p .position .ensures .there _ (c .enum-told2 .given .1) in
     let h = has-at _ _ (c .enum-told2 .given .0 .0) (t .0) (t .1 .1 .0) in
-    sym (rw (same-eq _ _ (t .1 .1 .1), ← entries-all (s .args .list .now) _ (s .pre .1 .0) (p .before .count-of .ensures .0)) h)
+    sym (rw (same-eq _ _ (t .1 .1 .1), ← entries-all (entry .args .list .now) _ (entry .pre .1 .0) (p .before .count-of .ensures .0)) h)
 
 returns-3 : tie.Need-returns-3
 returns-3 c =
     let p = c .before .before in
-    let s = p .before .before .before .before .before .before .before .before in
-    sym (rw (entries-all (s .args .list .now) _ (s .pre .1 .0) (p .before .count-of .ensures .0)) at (p .position .ensures .missing (c .enum-told3 .given .1)))
+    let entry = p .before .before .before .before .before .before .before .before in
+    sym (rw (entries-all (entry .args .list .now) _ (entry .pre .1 .0) (p .before .count-of .ensures .0))
+    at (p .position .ensures .missing (c .enum-told3 .given .1)))
 
 pub is-confirmed-spec : {M : Type 1} → statement M
 is-confirmed-spec =

@@ -13,19 +13,24 @@ use Rattle.confirmed.proofs.mark_confirmed.Statement.{statement}
 use Rattle.confirmed.proofs.mark_confirmed.Tie as tie
 
 abbrev Inv-loop : tie.InvT-loop
-Inv-loop stores list starts slots marks₀ count k₀ at₀ marks k at = EntryWalk list count k at × Marked (entriesIn stores) (allNames (take k (entriesIn list))) marks
+Inv-loop stores list starts slots marks₀ count k₀ at₀ marks k at =
+    EntryWalk list count k at × Marked (entriesIn stores) (allNames (take k (entriesIn list))) marks
 
 abbrev μ-loop : tie.MeasureT-loop
 μ-loop stores list starts slots marks₀ count k₀ at₀ marks k at = count - k
 
 -- the name of the list's entry k lies within the bytes
-inside : (c : tie.After-length-at Inv-loop μ-loop) → c .before .before .loop .at + c .length-at .result ≤ length (c .before .before .before .before .before .before .before .args .list .now)
+inside : (c : tie.After-length-at Inv-loop μ-loop) →
+    let entry = c .before .before .before .before .before .before .before in
+    c .before .before .loop .at + c .length-at .result ≤ length (entry .args .list .now)
 inside c = omega (arith, standing-within (c .before .before .loop .inv .0) (c .before .loop-test .taken) (c .length-at .ensures .0))
 
 loop-holds : tie.Need-loop-holds Inv-loop μ-loop
 loop-holds c =
-    let s = c .before .before .before .before in
-    (rw (c .names-start .ensures) (standing-start _ _ (s .pre .1 .0) (c .before .count-of .ensures .0)), marked-start (entriesIn (s .args .stores .now)) (entriesIn (s .args .list .now)) (s .args .marks .now) (s .pre .1 .1 .1 .1))
+    let s = c .before .before .before .before in (
+      rw (c .names-start .ensures) (standing-start _ _ (s .pre .1 .0) (c .before .count-of .ensures .0)),
+      marked-start (entriesIn (s .args .stores .now)) (entriesIn (s .args .list .now)) (s .args .marks .now) (s .pre .1 .1 .1 .1),
+    )
 
 length-at-requires : tie.Need-length-at-requires Inv-loop μ-loop
 length-at-requires c κs = let l = c .before .loop in (l .inv .0 .laid, (l .inv .0 .counted, omega arith))
@@ -51,23 +56,27 @@ loop-again c =
     let lt = w .before .loop-test .taken in
     let e = standing-here (l .inv .0) lt (w .length-at .ensures .0) in
     let known = w .before .before .before .before .before .before in
-    let s = known .before in
+    let entry = known .before in
     let f = c .before .find .ensures in (
       standing-next (l .inv .0) lt (w .length-at .ensures .0),
       ⊎-elim
           (λ u.
           let g = f .there _ (u .1 .given .1) in
-          rw (u .5, u .4 .ensures) (marked-found (s .args .stores .now) (entriesIn (s .args .list .now)) (l .k) (l .marks) (l .inv .1) e (s .pre .1 .1 .0) _ (g .1 .1 .0) (g .1 .1 .1) (omega (arith, u .3 .given .0 .1, g .0))))
+          rw (u .5, u .4 .ensures)
+          (marked-found (entry .args .stores .now) (entriesIn (entry .args .list .now)) (l .k) (l .marks) (l .inv .1) e
+          (entry .pre .1 .1 .0) _ (g .1 .1 .0) (g .1 .1 .1) (omega (arith, u .3 .given .0 .1, g .0))))
           (λ u.
           rw (u .2)
-          (marked-none (s .args .stores .now) (entriesIn (s .args .list .now)) (l .k) (l .marks) (l .inv .1) e (s .pre .0) (f .missing (u .1 .given .1))))
+          (marked-none (entry .args .stores .now) (entriesIn (entry .args .list .now)) (l .k) (l .marks) (l .inv .1) e
+          (entry .pre .0) (f .missing (u .1 .given .1))))
           (c .match .came),
     )
 
 returns : tie.Need-returns Inv-loop μ-loop
 returns c =
-    let s = c .before .before .before .before .before .before in
-    rw (take-all (c .before .loop .k) (entriesIn (s .args .list .now)) (omega (arith, length-entries (s .args .list .now) (s .pre .1 .0)))) at (c .before .loop .inv .1)
+    let entry = c .before .before .before .before .before .before in
+    rw (take-all (c .before .loop .k) (entriesIn (entry .args .list .now)) (omega (arith, length-entries (entry .args .list .now) (entry .pre .1 .0))))
+    at (c .before .loop .inv .1)
 
 pub mark-confirmed-spec : {M : Type 1} → statement M
 mark-confirmed-spec =

@@ -24,8 +24,9 @@ mode-at-requires c κs = (c .before .before .before .before .pre, omega arith)
 
 loop-again : tie.Need-loop-again Inv-loop μ-loop
 loop-again c =
+    let entry = c .before .before .before .before .before .before .before in
     let l = c .before .before .before .before .loop in
-    let (x, e) = entry-there _ (l .k) (c .before .before .before .before .before .before .before .pre) (omega arith) in
+    let (x, e) = entry-there _ (l .k) (entry .pre) (omega arith) in
     let r = ap isReadable (sym (c .before .before .mode-at .ensures x e)) ∙ sym (c .before .is-readable .ensures) in
     ⊎-elim
     (λ u. ready-yes (l .inv) e (r ∙ u .0 .taken) (u .2 .taken) (u .3))

@@ -6,13 +6,19 @@ use Rattle.console.proofs.collect_one.Statement.{statement}
 use Rattle.console.proofs.collect_one.Tie as tie
 
 slice-write-args : tie.Need-slice-write-args
-slice-write-args c = let g = c .before .before .before .before .arg .ensures .0 in ⊎-elim (λ w. omega (arith, g, w .1)) (λ w. omega (arith, g, w .1)) (c .if1 .came)
+slice-write-args c =
+    let g = c .before .before .before .before .arg .ensures .0 in
+    ⊎-elim (λ w. omega (arith, g, w .1)) (λ w. omega (arith, g, w .1)) (c .if1 .came)
 
 add-result : tie.Need-add-result
-add-result c = let g = c .before .before .before .before .before .arg .ensures .0 in ⊎-elim (λ w. omega (arith, g, w .1)) (λ w. omega (arith, g, w .1)) (c .before .if1 .came)
+add-result c =
+    let g = c .before .before .before .before .before .arg .ensures .0 in
+    ⊎-elim (λ w. omega (arith, g, w .1)) (λ w. omega (arith, g, w .1)) (c .before .if1 .came)
 
 returns : tie.Need-returns
-returns c = let g = c .before .before .before .before .before .arg .ensures .0 in ⊎-elim (λ w. omega (arith, g, w .1)) (λ w. omega (arith, g, w .1)) (c .before .if1 .came)
+returns c =
+    let g = c .before .before .before .before .before .arg .ensures .0 in
+    ⊎-elim (λ w. omega (arith, g, w .1)) (λ w. omega (arith, g, w .1)) (c .before .if1 .came)
 
 pub collect-one-spec : {M : Type 1} → statement M
 collect-one-spec =

@@ -14,10 +14,14 @@ abbrev μ-loop : tie.MeasureT-loop
 μ-loop text₀ done₀ text done = length text - done
 
 add-done : tie.Need-add-done Inv-loop μ-loop
-add-done c = search (needs, c .before .before .before .before .before .before .read-some .ensures, ap sizeOf (c .before .before .some .given .1))
+add-done c =
+    let after-read-some = c .before .before .before .before .before .before in
+    search (needs, after-read-some .read-some .ensures, ap sizeOf (c .before .before .some .given .1))
 
 loop-again : tie.Need-loop-again Inv-loop μ-loop
-loop-again c = search (needs, c .before .before .before .before .before .before .read-some .ensures, ap sizeOf (c .before .before .some .given .1))
+loop-again c =
+    let after-read-some = c .before .before .before .before .before .before in
+    search (needs, after-read-some .read-some .ensures, ap sizeOf (c .before .before .some .given .1))
 
 pub read-text-spec : {M : Type 1} → statement M
 read-text-spec =

@@ -39,7 +39,10 @@ module _ (i s : List ℕ) (a : ℕ) (l : List ℕ) where
         refused-19 e = let (r, p) = isSome-true (decode i) image in sym (decide-19 i s a l p table lone e)
 
         -- b is the answer of whatever rule has all n nodes
-        pub answered : {n ready : ℕ} → isList l ≡ true → n ≡ nodeCountIn i → ready ≡ readyCount (entriesIn s) (allNames (entriesIn l)) → (b : Bool) → ((r : Rule) → size r ≡ n → EncodedAt r (cellAt i n) 0 → b ≡ evict r (record { age = a; ready = ready; names = allNames (entriesIn l) })) → decisionOf b ≡ decideOf i s a l
+        pub answered : {n ready : ℕ} → isList l ≡ true → n ≡ nodeCountIn i →
+            ready ≡ readyCount (entriesIn s) (allNames (entriesIn l)) → (b : Bool) →
+            ((r : Rule) → size r ≡ n → EncodedAt r (cellAt i n) 0 → b ≡ evict r (record { age = a; ready = ready; names = allNames (entriesIn l) })) →
+            decisionOf b ≡ decideOf i s a l
         answered is p c b says =
             let (r, e) = isSome-true (decode i) image in
             let w = decode-whole i p e in

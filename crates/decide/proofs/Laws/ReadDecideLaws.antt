@@ -21,5 +21,6 @@ module _ (text : List ℕ) (r : Rule) (reads : readOf text ≡ rule r) (s : List
   decide-read = decide-image r (read-fits text r reads) s a l
 
   -- "answers evict or keep": for every table and list that is accepted, what the text's rule says
-  pub decide-read-says : isTable s ≡ true → twinOf (entriesIn s) ≡ No → isList l ≡ true → decideOf (encode r) s a l ≡ decisionOf (evict r (envOf (entriesIn s) a (listNames l)))
+  pub decide-read-says : isTable s ≡ true → twinOf (entriesIn s) ≡ No → isList l ≡ true →
+      decideOf (encode r) s a l ≡ decisionOf (evict r (envOf (entriesIn s) a (listNames l)))
   decide-read-says = decide-says (encode r) s a l (read-decodes text r reads)

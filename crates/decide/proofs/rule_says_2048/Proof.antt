@@ -8,7 +8,9 @@ use Rattle.decide.proofs.rule_says_2048.Statement.{statement}
 use Rattle.decide.proofs.rule_says_2048.Tie as tie
 
 evaluate-requires : tie.Need-evaluate-requires
-evaluate-requires c κs = (rowOf (c .before .before .before .before .before .before .before .pre .0), omega arith)
+evaluate-requires c κs =
+    let entry = c .before .before .before .before .before .before .before in
+    (rowOf (entry .pre .0), omega arith)
 
 returns : tie.Need-returns
 returns c = λ ρ e st. c .evaluate .ensures ρ e st ∙ by-says _ _ _ _ (c .before .before .before .say-leaves .ensures) ρ 0 (omega arith) st

@@ -43,7 +43,8 @@ decimal-ge n (b ∷ ds) = omega (arith, decimal-ge (n * 10 + digitValue b) ds)
 none-small : (k n : ℕ) → n < suc n * 10 ^ k
 none-small k n = omega (arith, mul-le-mul-left (suc n) (one-le-pow k 10 (omega arith)))
 
-step-small : (v : Bool) (b r : ℕ) (s : List ℕ) → isDigit b ≡ v → ((k n : ℕ) → r ≤ k → decimalFrom n (take r s) < suc n * 10 ^ k) → (k n : ℕ) → cond v (suc r) 0 ≤ k → decimalFrom n (take (cond v (suc r) 0) (b ∷ s)) < suc n * 10 ^ k
+step-small : (v : Bool) (b r : ℕ) (s : List ℕ) → isDigit b ≡ v → ((k n : ℕ) → r ≤ k → decimalFrom n (take r s) < suc n * 10 ^ k) →
+    (k n : ℕ) → cond v (suc r) 0 ≤ k → decimalFrom n (take (cond v (suc r) 0) (b ∷ s)) < suc n * 10 ^ k
 unfolding decimalFrom
 step-small false b r s e f k n h = none-small k n
 step-small true b r s e f zero n h = absurd (omega arith)

@@ -106,7 +106,8 @@ digits-read n h = in-read 20 n (omega arith)
 pub digits-more : (n : ℕ) → 10 ≤ n → n < 2 ^ 64 → length (digitsOf n) ≡ length (digitsOf (n / 10)) + 1
 digits-more n l h = rw (digits-last n l h) (length-append (digitsOf (n / 10)) (digit (n % 10) ∷ []))
 
--- ---- the digits of n written into a text up to `end`, the last one first: those of `left` are still to be written, and the others are in the text from `at` on
+-- ---- the digits of n written into a text up to `end`, the last one first: those of `left` are still to be written, and the
+-- others are in the text from `at` on
 pub record PutBehind (n left : ℕ) (before after : List ℕ) (at end : ℕ) : Type 0 where
   pub digits : List ℕ
   pub put : WrittenAt before after at end digits

@@ -16,7 +16,9 @@ use Rattle.details.proofs.append_node.Statement.{statement}
 use Rattle.details.proofs.append_node.Tie as tie
 
 -- the rule that the text reads as, in the buffer
-the-rule : (c : tie.After-known-told) → Found (c .before .before .before .before .before .before .before .before .args .text .now) (c .before .size .given .0 .0) (c .before .before .before .before .read .last .1 .0)
+the-rule : (c : tie.After-known-told) →
+    let entry = c .before .before .before .before .before .before .before .before in
+    Found (entry .args .text .now) (c .before .size .given .0 .0) (c .before .before .before .before .read .last .1 .0)
 the-rule c = read-rule _ _ (search needs) (c .before .before .before .before .read .ensures) (c .before .size .given .1)
 
 returns : tie.Need-returns
@@ -40,7 +42,11 @@ node-at-requires : tie.Need-node-at-requires
 node-at-requires c κs = (taken-whole (the-rule (c .before .before .before)) (c .before .node-count .ensures .0) .inside .long, c .if1 .left)
 
 -- a name's bytes lie in it
-name-in : (c : tie.After-node-at) → c .node-at .result .kind ≡ namedKind → NameInside (take (c .before .before .before .before .before .size .given .0 .0) (c .before .before .before .before .before .before .before .before .read .last .1 .0)) (c .before .before .node-count .result) (c .node-at .result .arg)
+name-in : (c : tie.After-node-at) →
+    let after-size = c .before .before .before .before .before in
+    let after-read = after-size .before .before .before in
+    c .node-at .result .kind ≡ namedKind →
+    NameInside (take (after-size .size .given .0 .0) (after-read .read .last .1 .0)) (c .before .before .node-count .result) (c .node-at .result .arg)
 name-in c k =
     let w = taken-whole (the-rule (c .before .before .before .before)) (c .before .before .node-count .ensures .0) in
     name-inside _ _ _ (c .node-at .ensures) (w .inside .names) (c .before .if1 .left) k
@@ -50,20 +56,25 @@ name-of-requires c κs = name-in (c .before .before) (c .before .if2 .taken)
 
 append-shown-requires : tie.Need-append-shown-requires
 append-shown-requires c κs =
+    let after-known-told = c .before .before .before .before .before .before .before in
     rw (c .name-of .ensures)
-    (simp length-take (omega (arith, taken-short (the-rule (c .before .before .before .before .before .before .before)), name-in (c .before .before .before) (c .before .before .if2 .taken))))
+    (simp length-take (omega (arith, taken-short (the-rule after-known-told), name-in (c .before .before .before) (c .before .before .if2 .taken))))
 
 returns-3 : tie.Need-returns-3
 returns-3 c =
-    let d = c .before .before .before .before .before .before in
-    rw (name-here (the-rule (d .before .before .before .before)) (d .before .before .node-count .ensures .0) (d .node-at .ensures) (d .before .if1 .left) (c .before .before .before .before .before .if2 .taken) (c .before .before .before .name-of .ensures))
+    let then2 = c .before .before .before .before .before in
+    let after-node-at = then2 .before in
+    rw (name-here (the-rule (after-node-at .before .before .before .before))
+    (after-node-at .before .before .node-count .ensures .0) (after-node-at .node-at .ensures)
+    (after-node-at .before .if1 .left) (then2 .if2 .taken) (c .before .before .before .name-of .ensures))
     (c .before .before .append-shown .ensures)
 
 returns-4 : tie.Need-returns-4
 unfolding shownAll
 returns-4 c =
     let d = c .before in
-    rw (name-not (the-rule (d .before .before .before .before)) (d .before .before .node-count .ensures .0) (d .node-at .ensures) (d .before .if1 .left) (c .if2 .left)) (written-at-none _ _)
+    rw (name-not (the-rule (d .before .before .before .before)) (d .before .before .node-count .ensures .0) (d .node-at .ensures)
+    (d .before .if1 .left) (c .if2 .left)) (written-at-none _ _)
 
 pub append-node-spec : {M : Type 1} → statement M
 append-node-spec =

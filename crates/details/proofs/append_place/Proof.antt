@@ -17,15 +17,17 @@ append-marked-requires c κs = omega (arith, within-text (c .before .before))
 
 returns : tie.Need-returns
 returns c =
+    let after-end-of-last = c .before .before .before .before .before in
     let p = min-eq-left (le-of-lt (c .before .before .before .before .if1 .taken)) in
-    rw (← c .before .before .before .before .before .end-of-last .ensures, p) (c .before .before .append-marked .ensures)
+    rw (← after-end-of-last .end-of-last .ensures, p) (c .before .before .append-marked .ensures)
 
 append-marked-requires-2 : tie.Need-append-marked-requires-2
 append-marked-requires-2 c κs = omega (arith, within-text (c .before .before))
 
 returns-2 : tie.Need-returns-2
 returns-2 c =
-    rw (← c .before .before .before .before .before .end-of-last .ensures, min-eq-right (c .before .before .before .before .if1 .left)) (c .before .before .append-marked2 .ensures)
+    let after-end-of-last = c .before .before .before .before .before in
+    rw (← after-end-of-last .end-of-last .ensures, min-eq-right (c .before .before .before .before .if1 .left)) (c .before .before .append-marked2 .ensures)
 
 pub append-place-spec : {M : Type 1} → statement M
 append-place-spec =

@@ -16,7 +16,9 @@ abbrev μ-loop : tie.MeasureT-loop
 μ-loop page₀ at stores count k₀ start₀ end₀ page k start end = count - k
 
 -- the name of store k lies within the bytes
-inside : (c : tie.After-length-at Inv-loop μ-loop) → c .before .before .loop .start + c .length-at .result ≤ length (c .before .before .before .before .before .before .before .args .stores .now)
+inside : (c : tie.After-length-at Inv-loop μ-loop) →
+    let entry = c .before .before .before .before .before .before .before in
+    c .before .before .loop .start + c .length-at .result ≤ length (entry .args .stores .now)
 inside c = omega (arith, standing-within (c .before .before .loop .inv .stands) (c .before .loop-test .taken) (c .length-at .ensures .0))
 
 loop-holds : tie.Need-loop-holds Inv-loop μ-loop
@@ -37,7 +39,9 @@ part-append-confirmed-end c = omega (arith, inside (c .before .before .before))
 append-confirmed-requires : tie.Need-append-confirmed-requires Inv-loop μ-loop
 append-confirmed-requires c κs =
     let w = c .before .before .before .before in
-    named-room (w .before .before .loop .inv) (w .before .before .before .before .before .before .before .pre .1) (w .before .loop-test .taken) (w .length-at .ensures .0) (c .before .before .before .mode-at .ensures) (c .before .before .if1 .taken)
+    let entry = w .before .before .before .before .before .before .before in
+    named-room (w .before .before .loop .inv) (entry .pre .1) (w .before .loop-test .taken) (w .length-at .ensures .0)
+    (c .before .before .before .mode-at .ensures) (c .before .before .if1 .taken)
 
 add-start : tie.Need-add-start Inv-loop μ-loop
 add-start c = omega (arith, inside (c .before .before))
@@ -54,10 +58,14 @@ loop-again c =
     (c .if1 .came)
 
 same-length : tie.Need-same-length Inv-loop μ-loop
-same-length c = named-length (c .before .loop .inv) (c .before .before .before .before .before .before .pre .1)
+same-length c =
+    let entry = c .before .before .before .before .before .before in
+    named-length (c .before .loop .inv) (entry .pre .1)
 
 returns : tie.Need-returns Inv-loop μ-loop
-returns c = named-end (c .before .loop .inv) (c .before .before .before .before .before .before .pre .1) (omega arith)
+returns c =
+    let entry = c .before .before .before .before .before .before in
+    named-end (c .before .loop .inv) (entry .pre .1) (omega arith)
 
 pub append-write-only-spec : {M : Type 1} → statement M
 append-write-only-spec =

@@ -64,7 +64,8 @@ duration-parts zero e = absurd (e refl)
 duration-parts (suc k) e = refl
 
 -- and as long as they are
-pub duration-length : (ms : ℕ) → ms ≢ 0 → length (durationText ms) ≡ length (daysText ms) + length (hoursText ms) + length (minutesText ms) + length (secondsText ms) + length (millisText ms)
+pub duration-length : (ms : ℕ) → ms ≢ 0 →
+    length (durationText ms) ≡ length (daysText ms) + length (hoursText ms) + length (minutesText ms) + length (secondsText ms) + length (millisText ms)
 duration-length ms e = rw (duration-parts ms e) (simp length-append (omega arith))
 
 -- one of whole days has no part but days

@@ -12,7 +12,9 @@ returns-2 : tie.Need-returns-2
 returns-2 c = let e = c .before .before .before in rw (duration-days (e .before .args .ms) (e .if1 .left) (c .if2 .taken)) (c .before .part-size .ensures)
 
 returns-3 : tie.Need-returns-3
-returns-3 c = let e = c .before .before .before .before .before .before .before .before .before .before .before in omega (arith, duration-length (e .before .args .ms) (e .if1 .left))
+returns-3 c =
+    let else1 = c .before .before .before .before .before .before .before .before .before .before .before in
+    omega (arith, duration-length (else1 .before .args .ms) (else1 .if1 .left))
 
 -- a duration's text is short, so that the sum fits
 add-result-4 : tie.Need-add-result-4

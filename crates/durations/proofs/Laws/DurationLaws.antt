@@ -85,7 +85,8 @@ module _ (u : NamedUnit) (w : List ℕ) (at : ℕ) where
       unfolding isPart
       part-other h = no-part (rw (rw (e, b, d) at h, and-false (ltb at (digitsEnd w at) && leb (digitsEnd w at) (at + 9))))
 
-      pub part-found : (digits ≡ at → ⊥) → digits ≤ at + 9 → equal (part w start end) (u .name) ≡ true → partAt u w at ≡ Of (decimal (part w at digits) * u .milliseconds) (runEnd (ofClass blank) w end)
+      pub part-found : (digits ≡ at → ⊥) → digits ≤ at + 9 → equal (part w start end) (u .name) ≡ true →
+          partAt u w at ≡ Of (decimal (part w at digits) * u .milliseconds) (runEnd (ofClass blank) w end)
       unfolding partAt
       part-found l m h =
           rw (lt-ltb at (digitsEnd w at) (omega (arith, end-ge isDigit w at)), le-leb (digitsEnd w at) (at + 9) (omega arith), rw (e, b, d) at h, e, b, d)
@@ -103,7 +104,10 @@ module _ (u : NamedUnit) (w : List ℕ) (at : ℕ) {n next : ℕ} (q : partAt u 
   unfolding nextPart
   part-within h =
       let i = part-is in
-      omega (arith, end-le (ofClass blank) w (unitEnd w at) (end-le isUnitByte w (unitStart w at) (end-le (ofClass blank) w (digitsEnd w at) (end-le isDigit w at h))))
+      omega (
+        arith,
+        end-le (ofClass blank) w (unitEnd w at) (end-le isUnitByte w (unitStart w at) (end-le (ofClass blank) w (digitsEnd w at) (end-le isDigit w at h))),
+      )
 
 pub part-small : (rank : ℕ) (w : List ℕ) (at : ℕ) {n next : ℕ} → partAt (unitAt rank) w at ≡ Of n next → n ≤ partMost
 unfolding isPart amountOf

@@ -17,7 +17,8 @@ module _ {j : Join} {first : ℕ} {t a t₁ a₁ : List ℕ} where
     refused = λ y p. let same : x ≡ y = cc in cc;
   }
 
-  pub list-written : {all r : ParseEnd} {e n m n₁ : ℕ} → all ≡ Done e n m → r ≡ Done e n₁ m → n₁ ≡ n + 1 → Joined j first n t a t₁ a₁ → ListEnd j first t a t₁ a₁ all r
+  pub list-written : {all r : ParseEnd} {e n m n₁ : ℕ} → all ≡ Done e n m → r ≡ Done e n₁ m → n₁ ≡ n + 1 →
+      Joined j first n t a t₁ a₁ → ListEnd j first t a t₁ a₁ all r
   list-written {e = e} {n = n} {m = m} h q more w = record {
     done = λ e′ n′ m′ p.
         let qe : e ≡ e′ = cc in

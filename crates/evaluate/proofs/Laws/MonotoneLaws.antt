@@ -75,7 +75,8 @@ module _ (u v : Env) (older : u .age ≤ v .age) (readier : u .ready ≤ v .read
   leaf-up (readable k) f e = le-leb k (v .ready) (omega (arith, leb-true k (u .ready) e))
 
   -- what holds of rules and of a rule after them holds of them all
-  more-up : (rs : Rules) (r : Rule) → (Kept u v (namesInAll rs) → Grown (answers rs u) (answers rs v)) → (Kept u v (namesIn r) → evict r u ≡ true → evict r v ≡ true) →
+  more-up : (rs : Rules) (r : Rule) → (Kept u v (namesInAll rs) → Grown (answers rs u) (answers rs v)) →
+      (Kept u v (namesIn r) → evict r u ≡ true → evict r v ≡ true) →
       Kept u v (namesInAll rs ++ namesIn r) → Grown (evict r u ∷ answers rs u) (evict r v ∷ answers rs v)
   more-up rs r h k f = cons-up (k (λ w m. f w (Memᴰ·append-right (namesInAll rs) m))) (h (λ w m. f w (Memᴰ·append-left (namesIn r) m)))
 

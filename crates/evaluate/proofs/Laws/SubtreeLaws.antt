@@ -76,7 +76,8 @@ module _ (f : ℕ → Cell) (g : ℕ → Bool) (from k : ℕ) where
 
     -- the cell before `end` says z
     module _ {z : ℕ} (says : z ≡ f (end - 1) .size) where
-      next-of : (b : Bool) {y′ : ℕ} (rs : Rules) (r : Rule) → from < end → Answered f g (end - z) z b → y′ ≡ cond b (suc y) y → (rest : Rules) → Walk f g from end y t rs r rest → (rest : Rules) × Walk f g from (end - z) y′ (t + 1) rs r rest
+      next-of : (b : Bool) {y′ : ℕ} (rs : Rules) (r : Rule) → from < end → Answered f g (end - z) z b → y′ ≡ cond b (suc y) y →
+          (rest : Rules) → Walk f g from end y t rs r rest → (rest : Rules) × Walk f g from (end - z) y′ (t + 1) rs r rest
       unfolding size EncodedAt evictBy
       next-of b rs r lt ans ey nil w = absurd (omega (arith, w .ends))
       next-of b {y′} rs r lt ans ey (more rest q) w =
@@ -99,13 +100,15 @@ module _ (f : ℕ → Cell) (g : ℕ → Bool) (from k : ℕ) where
       pub walks-next : from < end → (b : Bool) {y′ : ℕ} → Answered f g (end - z) z b → y′ ≡ cond b (suc y) y → Walks f g from k (end - z) y′ (t + 1)
       walks-next lt b ans ey j rs r e st = let (rest, w) = ws j rs r e st in next-of b rs r lt ans ey rest w
 
-    done-of : (rs : Rules) (r : Rule) → end ≤ from → (rest : Rules) → Walk f g from end y t rs r rest → (countTrue (answersBy g (more rs r) from) ≡ y) × (length (answersBy g (more rs r) from) ≡ t)
+    done-of : (rs : Rules) (r : Rule) → end ≤ from → (rest : Rules) → Walk f g from end y t rs r rest →
+        (countTrue (answersBy g (more rs r) from) ≡ y) × (length (answersBy g (more rs r) from) ≡ t)
     unfolding size evictBy countTrue
     done-of rs r le nil w = (omega (arith, w .evicts), omega (arith, w .told))
     done-of rs r le (more rest q) w = absurd (omega (arith, w .ends, size-pos q))
 
     -- all are asked
-    pub join-done : {m : Meaning} {b : Bool} → m ≡ f (from + k - 1) .what → NoLeaf m → end ≤ from → ((j : Join) (bs : List Bool) → m ≡ aJoin j → countTrue bs ≡ y → length bs ≡ t → b ≡ joinSays j bs) → Answered f g from k b
+    pub join-done : {m : Meaning} {b : Bool} → m ≡ f (from + k - 1) .what → NoLeaf m → end ≤ from →
+        ((j : Join) (bs : List Bool) → m ≡ aJoin j → countTrue bs ≡ y → length bs ≡ t → b ≡ joinSays j bs) → Answered f g from k b
     unfolding size EncodedAt evictBy
     join-done p other le says (leaf l) e st =
         let q : from ≡ from + k - 1 = omega arith in

@@ -39,7 +39,8 @@ unfolding run allAscii
 run-ascii [] h = refl
 run-ascii (b ∷ s) h = go (ascii b) refl (run-ascii s) h
   where
-    go : (v : Bool) → ascii b ≡ v → (length s ≤ run ascii s → allAscii s ≡ true) → suc (length s) ≤ cond v (suc (run ascii s)) 0 → (ltb b 128 && allAscii s) ≡ true
+    go : (v : Bool) → ascii b ≡ v → (length s ≤ run ascii s → allAscii s ≡ true) → suc (length s) ≤ cond v (suc (run ascii s)) 0 →
+        (ltb b 128 && allAscii s) ≡ true
     go true e f l = rw (ascii-below b e) (f (omega arith))
     go false e f l = absurd (omega arith)
 

@@ -25,7 +25,8 @@ scan-clean (Word p a b q n ∷ ts) h = scan-clean ts (omega arith)
 scan-clean (Fault f ∷ ts) h = absurd (omega arith)
 
 -- the expression ends at e, where no token is left
-pub read-clean : (s : List ℕ) (f e : ℕ) {p : ℕ} {r : Rule} → orIn f s 0 (tokensFrom s 0) ≡ got r (tokensFrom s e) → tokenAt s e ≡ End p → scanOf (tokensFrom s 0) ≡ Clean
+pub read-clean : (s : List ℕ) (f e : ℕ) {p : ℕ} {r : Rule} → orIn f s 0 (tokensFrom s 0) ≡ got r (tokensFrom s e) →
+    tokenAt s e ≡ End p → scanOf (tokensFrom s 0) ≡ Clean
 unfolding nextOf
 read-clean s f e q h =
     let m = rw q at (or-made s f 0 (tokensFrom s 0)) in

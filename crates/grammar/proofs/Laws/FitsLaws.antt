@@ -82,7 +82,8 @@ fits : (s : List ℕ) → ReadFits (readOf s)
 unfolding readOf
 fits s = go (ltb 2048 (length s)) (ltb (runEnd ascii s 0) (length s)) refl refl
   where
-    go : (x y : Bool) → ltb 2048 (length s) ≡ x → ltb (runEnd ascii s 0) (length s) ≡ y → ReadFits (cond x (refused (refusal longText 0)) (cond y (refused (refusal foreignByte (runEnd ascii s 0))) (scannedOf (scanOf (tokensFrom s 0)) s)))
+    go : (x y : Bool) → ltb 2048 (length s) ≡ x → ltb (runEnd ascii s 0) (length s) ≡ y →
+        ReadFits (cond x (refused (refusal longText 0)) (cond y (refused (refusal foreignByte (runEnd ascii s 0))) (scannedOf (scanOf (tokensFrom s 0)) s)))
     go true y p q = tt
     go false true p q = tt
     go false false p q = scanned-fits s (ltb-false 2048 (length s) p) (text-ascii s (ltb-false (runEnd ascii s 0) (length s) q)) (scanOf (tokensFrom s 0))

@@ -51,7 +51,9 @@ module _ (s : List ℕ) where
   primary-fewer f d ts e = made-fewer s ts (primaryIn f s d ts) (primary-made s f d ts) e
 
   -- a chain's operand leaves at most these, and so does what follows it
-  turn-left : (k : ℕ) (j : Join) (operand : List Token → ParseResult) (again : ParseResult → ParseResult) → Sign k → ((vs : List Token) → Holds (MadeRule s vs) (operand vs)) → ((g : ParseResult) → leftOf (again g) ≤ leftOf g) → (l : Rule) (us : List Token) → leftOf (onRest (after k us) (λ vs. again (onto j l (operand vs))) (got l us)) ≤ length us
+  turn-left : (k : ℕ) (j : Join) (operand : List Token → ParseResult) (again : ParseResult → ParseResult) → Sign k →
+      ((vs : List Token) → Holds (MadeRule s vs) (operand vs)) → ((g : ParseResult) → leftOf (again g) ≤ leftOf g) →
+      (l : Rule) (us : List Token) → leftOf (onRest (after k us) (λ vs. again (onto j l (operand vs))) (got l us)) ≤ length us
   turn-left k j operand again p m h l us =
       on-rest (λ g. leftOf g ≤ length us) k us _ (got l us) p
       (λ vs t. omega (arith, h (onto j l (operand vs)), onto-left j l (operand vs), made-left s vs (operand vs) (m vs)))
@@ -79,22 +81,29 @@ module _ (s : List ℕ) where
       (on-rest (λ g. leftOf g ≤ length us) closeBracket us _ _ (omega arith) (λ vs t. omega arith) (omega arith))
 
 -- ---- given enough calls, their bound does not matter
-head-same : (h : PrimaryStart) (i i′ : List Token → ParseResult) (l l′ : Join → List Token → ParseResult) → ((us : List Token) → startRest h ≡ rest us → i us ≡ i′ us) → ((j : Join) (us : List Token) → startRest h ≡ rest us → l j us ≡ l′ j us) → byStart h i l ≡ byStart h i′ l′
+head-same : (h : PrimaryStart) (i i′ : List Token → ParseResult) (l l′ : Join → List Token → ParseResult) →
+    ((us : List Token) → startRest h ≡ rest us → i us ≡ i′ us) →
+    ((j : Join) (us : List Token) → startRest h ≡ rest us → l j us ≡ l′ j us) → byStart h i l ≡ byStart h i′ l′
 head-same (aLeaf x us) i i′ l l′ p q = refl
 head-same (aGroup us) i i′ l l′ p q = ap closeAfter (p us refl)
 head-same (aList j place us) i i′ l l′ p q = ap (onRest (after closeBracket us) _) (q j us refl)
 head-same (refused f) i i′ l l′ p q = refl
 
-rest-same : (k : ℕ) (us : List Token) (x y : List Token → ParseResult) (o : ParseResult) → Sign k → ((vs : List Token) → length vs < length us → x vs ≡ y vs) → onRest (after k us) x o ≡ onRest (after k us) y o
+rest-same : (k : ℕ) (us : List Token) (x y : List Token → ParseResult) (o : ParseResult) → Sign k →
+    ((vs : List Token) → length vs < length us → x vs ≡ y vs) → onRest (after k us) x o ≡ onRest (after k us) y o
 rest-same k us x y o p h = by-after (λ r. onRest r x o ≡ onRest r y o) k us p refl (λ vs t. h vs (t .fewer))
 
 module _ (s : List ℕ) where
   -- what follows what was read of ts
-  then-same : (ts : List Token) (x y : ParseResult) (a b : ParseResult → ParseResult) → Holds (MadeRule s ts) x → x ≡ y → ((g : ParseResult) → leftOf g ≤ length ts - 1 → a g ≡ b g) → a x ≡ b y
+  then-same : (ts : List Token) (x y : ParseResult) (a b : ParseResult → ParseResult) → Holds (MadeRule s ts) x → x ≡ y →
+      ((g : ParseResult) → leftOf g ≤ length ts - 1 → a g ≡ b g) → a x ≡ b y
   then-same ts x y a b m e q = q x (made-left s ts x m) ∙ ap b e
 
   -- a chain's turn
-  turn-same : (k : ℕ) (j : Join) (x y : List Token → ParseResult) (a b : ParseResult → ParseResult) → Sign k → ((vs : List Token) → Holds (MadeRule s vs) (x vs)) → (l : Rule) (us : List Token) → ((vs : List Token) → length vs < length us → x vs ≡ y vs) → ((g : ParseResult) → leftOf g < length us → a g ≡ b g) → onRest (after k us) (λ vs. a (onto j l (x vs))) (got l us) ≡ onRest (after k us) (λ vs. b (onto j l (y vs))) (got l us)
+  turn-same : (k : ℕ) (j : Join) (x y : List Token → ParseResult) (a b : ParseResult → ParseResult) → Sign k →
+      ((vs : List Token) → Holds (MadeRule s vs) (x vs)) → (l : Rule) (us : List Token) →
+      ((vs : List Token) → length vs < length us → x vs ≡ y vs) → ((g : ParseResult) → leftOf g < length us → a g ≡ b g) →
+      onRest (after k us) (λ vs. a (onto j l (x vs))) (got l us) ≡ onRest (after k us) (λ vs. b (onto j l (y vs))) (got l us)
   turn-same k j x y a b p m l us e q =
       rest-same k us _ _ (got l us) p
       (λ vs t. then-same vs (x vs) (y vs) (λ g. a (onto j l g)) (λ g. b (onto j l g)) (m vs) (e vs t) (λ g i. q (onto j l g) (omega (arith, onto-left j l g))))
@@ -142,7 +151,8 @@ module _ (s : List ℕ) where
         then-same us (orIn f s (d + 1) us) (orIn g s (d + 1) us) (listMore f s d j nil) (listMore g s d j nil) (or-made s f (d + 1) us)
         (or-same f g (d + 1) us (omega arith) (omega arith)) (λ x k. list-more-same f g d j nil x (omega arith) (omega arith)))
 
-    list-more-same : (f g d : ℕ) (j : Join) (rs : Rules) (x : ParseResult) → 3 * leftOf x + 1 ≤ f → 3 * leftOf x + 1 ≤ g → listMore f s d j rs x ≡ listMore g s d j rs x
+    list-more-same : (f g d : ℕ) (j : Join) (rs : Rules) (x : ParseResult) → 3 * leftOf x + 1 ≤ f → 3 * leftOf x + 1 ≤ g →
+        listMore f s d j rs x ≡ listMore g s d j rs x
     list-more-same zero g d j rs x h i = absurd (omega arith)
     list-more-same (suc f) zero d j rs x h i = absurd (omega arith)
     list-more-same (suc f) (suc g) d j rs (bad r) h i = refl
@@ -187,7 +197,8 @@ module _ (s : List ℕ) (d : ℕ) where
   or-of ts =
       let f = 3 * length ts + 2 in
       sym (or-fuel s (suc f) d ts (omega arith)) ∙
-      then-same s ts (andIn f s d ts) (andOf s d ts) (orMore f s d) (orRest s d) (and-made s f d ts) (and-fuel s f d ts (omega arith)) (λ g l. or-more-fuel s f d g (omega arith))
+      then-same s ts (andIn f s d ts) (andOf s d ts) (orMore f s d) (orRest s d) (and-made s f d ts)
+      (and-fuel s f d ts (omega arith)) (λ g l. or-more-fuel s f d g (omega arith))
 
   pub or-bad : (r : Refusal) → orRest s d (bad r) ≡ bad r
   unfolding orRest orIn
@@ -214,7 +225,8 @@ module _ (s : List ℕ) (d : ℕ) where
   and-of ts =
       let f = 3 * length ts + 1 in
       sym (and-fuel s (suc f) d ts (omega arith)) ∙
-      then-same s ts (primaryIn f s d ts) (primaryOf s d ts) (andMore f s d) (andRest s d) (primary-made s f d ts) (primary-fuel s f d ts (omega arith)) (λ g l. and-more-fuel s f d g (omega arith))
+      then-same s ts (primaryIn f s d ts) (primaryOf s d ts) (andMore f s d) (andRest s d) (primary-made s f d ts)
+      (primary-fuel s f d ts (omega arith)) (λ g l. and-more-fuel s f d g (omega arith))
 
   pub and-bad : (r : Refusal) → andRest s d (bad r) ≡ bad r
   unfolding andRest orIn
@@ -236,13 +248,15 @@ module _ (s : List ℕ) (d : ℕ) where
     and-on e = and-step ∙ rw e
 
   -- an argument of a list, and what follows it
-  args-same : (f : ℕ) (j : Join) (rs : Rules) (us : List Token) → 3 * length us + 3 ≤ f → listMore f s d j rs (orIn f s (d + 1) us) ≡ listRest s d j rs (orOf s (d + 1) us)
+  args-same : (f : ℕ) (j : Join) (rs : Rules) (us : List Token) → 3 * length us + 3 ≤ f →
+      listMore f s d j rs (orIn f s (d + 1) us) ≡ listRest s d j rs (orOf s (d + 1) us)
   args-same f j rs us h =
       then-same s us (orIn f s (d + 1) us) (orOf s (d + 1) us) (listMore f s d j rs) (listRest s d j rs) (or-made s f (d + 1) us)
       (or-fuel s f (d + 1) us h) (λ g l. list-more-fuel s f d g (omega arith) j rs)
 
   -- a primary
-  pub primary-of : (ts : List Token) → primaryOf s d ts ≡ byStart (primaryStart s d ts) (λ us. orOf s (d + 1) us) (λ j us. listRest s d j nil (orOf s (d + 1) us))
+  pub primary-of : (ts : List Token) →
+      primaryOf s d ts ≡ byStart (primaryStart s d ts) (λ us. orOf s (d + 1) us) (λ j us. listRest s d j nil (orOf s (d + 1) us))
   unfolding orIn
   primary-of ts =
       let f = 3 * length ts in
@@ -258,7 +272,9 @@ module _ (s : List ℕ) (d : ℕ) where
     list-bad r = refl
 
     module _ (r : Rule) (us : List Token) where
-      list-step : listRest s d j rs (got r us) ≡ onRest (after comma us) (λ vs. listRest s d j (more rs r) (orOf s (d + 1) vs)) (onRest (after closeBracket us) (λ vs. got (node j rs r) vs) (bad (refusal bracketExpected (firstPlace us))))
+      list-step : listRest s d j rs (got r us)
+          ≡ onRest (after comma us) (λ vs. listRest s d j (more rs r) (orOf s (d + 1) vs))
+          (onRest (after closeBracket us) (λ vs. got (node j rs r) vs) (bad (refusal bracketExpected (firstPlace us))))
       unfolding orIn
       list-step =
           let f = 3 * length us in

@@ -41,14 +41,19 @@ closed-number (bad f) n = n
 
 module _ (s : List ℕ) where
   -- a primary, by how it begins
-  head-number : (ts : List Token) (h : PrimaryStart) (inner : List Token → ParseResult) (list : Join → List Token → ParseResult) → Begun s ts h → ((us : List Token) → length us < length ts → GotOr (inner us)) → ((j : Join) (us : List Token) → length us < length ts → GotOr (list j us)) → GotOr (byStart h inner list)
+  head-number : (ts : List Token) (h : PrimaryStart) (inner : List Token → ParseResult) (list : Join → List Token → ParseResult) →
+      Begun s ts h → ((us : List Token) → length us < length ts → GotOr (inner us)) →
+      ((j : Join) (us : List Token) → length us < length ts → GotOr (list j us)) → GotOr (byStart h inner list)
   head-number ts (aLeaf l us) inner list b i e = tt
   head-number ts (aGroup us) inner list b i e = closed-number (inner us) (i us (b .fewer))
   head-number ts (aList j p us) inner list b i e = on-rest GotOr closeBracket us _ (list j us) (omega arith) (λ vs t. omega arith) (e j us (b .0 .fewer))
   head-number ts (grammar.refused f) inner list b i e = b
 
   -- a chain's turn
-  turn-number : (k : ℕ) (j : Join) (x : List Token → ParseResult) (a : ParseResult → ParseResult) → Sign k → ((vs : List Token) → Holds (MadeRule s vs) (x vs)) → (l : Rule) (us : List Token) → ((vs : List Token) → length vs < length us → GotOr (x vs)) → ((g : ParseResult) → leftOf g < length us → GotOr g → GotOr (a g)) → GotOr (onRest (after k us) (λ vs. a (onto j l (x vs))) (got l us))
+  turn-number : (k : ℕ) (j : Join) (x : List Token → ParseResult) (a : ParseResult → ParseResult) → Sign k →
+      ((vs : List Token) → Holds (MadeRule s vs) (x vs)) → (l : Rule) (us : List Token) →
+      ((vs : List Token) → length vs < length us → GotOr (x vs)) →
+      ((g : ParseResult) → leftOf g < length us → GotOr g → GotOr (a g)) → GotOr (onRest (after k us) (λ vs. a (onto j l (x vs))) (got l us))
   turn-number k j x a p m l us e q =
       on-rest GotOr k us _ (got l us) p
       (λ vs t. q (onto j l (x vs)) (omega (arith, onto-left j l (x vs), made-left s vs (x vs) (m vs))) (onto-number j l (x vs) (e vs (t .fewer))))
@@ -73,7 +78,8 @@ module _ (s : List ℕ) where
     and-number : (f d : ℕ) (ts : List Token) → 3 * length ts + 2 ≤ f → GotOr (andIn f s d ts)
     and-number zero d ts h = absurd (omega arith)
     and-number (suc f) d ts h =
-        and-more-number f d (primaryIn f s d ts) (omega (arith, made-left s ts (primaryIn f s d ts) (primary-made s f d ts))) (primary-number f d ts (omega arith))
+        and-more-number f d (primaryIn f s d ts) (omega (arith, made-left s ts (primaryIn f s d ts) (primary-made s f d ts)))
+        (primary-number f d ts (omega arith))
 
     and-more-number : (f d : ℕ) (g : ParseResult) → 3 * leftOf g + 1 ≤ f → GotOr g → GotOr (andMore f s d g)
     and-more-number zero d g h n = absurd (omega arith)
@@ -87,14 +93,16 @@ module _ (s : List ℕ) where
     primary-number (suc f) d ts h =
         head-number ts (primaryStart s d ts) _ _ (head-begun s d ts)
         (λ us t. or-number f (d + 1) us (omega arith))
-        (λ j us t. list-more-number f d j nil (orIn f s (d + 1) us) (omega (arith, made-left s us (orIn f s (d + 1) us) (or-made s f (d + 1) us))) (or-number f (d + 1) us (omega arith)))
+        (λ j us t. list-more-number f d j nil (orIn f s (d + 1) us)
+        (omega (arith, made-left s us (orIn f s (d + 1) us) (or-made s f (d + 1) us))) (or-number f (d + 1) us (omega arith)))
 
     list-more-number : (f d : ℕ) (j : Join) (rs : Rules) (g : ParseResult) → 3 * leftOf g + 1 ≤ f → GotOr g → GotOr (listMore f s d j rs g)
     list-more-number zero d j rs g h n = absurd (omega arith)
     list-more-number (suc f) d j rs (bad r) h n = n
     list-more-number (suc f) d j rs (got r us) h n =
         on-rest GotOr comma us _ _ (omega arith)
-        (λ vs t. list-more-number f d j (more rs r) (orIn f s (d + 1) vs) (omega (arith, made-left s vs (orIn f s (d + 1) vs) (or-made s f (d + 1) vs))) (or-number f (d + 1) vs (omega arith)))
+        (λ vs t. list-more-number f d j (more rs r) (orIn f s (d + 1) vs)
+        (omega (arith, made-left s vs (orIn f s (d + 1) vs) (or-made s f (d + 1) vs))) (or-number f (d + 1) vs (omega arith)))
         (on-rest GotOr closeBracket us _ _ (omega arith) (λ vs t. tt) (omega arith))
 
 -- ---- the tokens of a text
@@ -104,7 +112,8 @@ CleanOr Clean = Unit {0}
 CleanOr (Refused f) = Numbered f
 
 -- a fault has a number among 4 to 6
-onward-number : (len at : ℕ) (t : Token) (later : ℕ → List Token) → Lexed len at t → ((n : ℕ) → CleanOr (scanOf (later n))) → CleanOr (scanOf (onward t (nextOf t) later))
+onward-number : (len at : ℕ) (t : Token) (later : ℕ → List Token) → Lexed len at t → ((n : ℕ) → CleanOr (scanOf (later n))) →
+    CleanOr (scanOf (onward t (nextOf t) later))
 unfolding nextOf scanOf
 onward-number len at (End p) later l h = tt
 onward-number len at (Open p n) later l h = h n

@@ -74,7 +74,8 @@ module _ (m : ℕ) where
   valued-placed Invalid number p then l f = l
 
   module _ (s : List ℕ) where
-    expected-placed : (ts : List Token) (then : ℕ → List ℕ → List Token → PrimaryStart) → Placed m ts → ((p : ℕ) (w : List ℕ) (us : List Token) → p ≤ m → Placed m us → HeadPlaced m (then p w us)) → HeadPlaced m (requireWord (expectedWord s ts) then)
+    expected-placed : (ts : List Token) (then : ℕ → List ℕ → List Token → PrimaryStart) → Placed m ts →
+        ((p : ℕ) (w : List ℕ) (us : List Token) → p ≤ m → Placed m us → HeadPlaced m (then p w us)) → HeadPlaced m (requireWord (expectedWord s ts) then)
     unfolding expectedWord placeOf
     expected-placed [] then h f = omega arith
     expected-placed (End p ∷ ts) then h f = h .0
@@ -118,7 +119,8 @@ module _ (m : ℕ) where
     opened-placed : (d p : ℕ) (x : PrimaryStart) → p ≤ m → HeadPlaced m x → HeadPlaced m (opened d p x)
     opened-placed d p x l h = by-cond (HeadPlaced m) (ltb d 64) (λ e. h) (λ e. l)
 
-    unquoted-placed : (d place : ℕ) (w : List ℕ) (ts : List Token) (r : Rest) → place ≤ m → Placed m ts → RestPlaced m r → HeadPlaced m (unquotedStart s d place w ts r)
+    unquoted-placed : (d place : ℕ) (w : List ℕ) (ts : List Token) (r : Rest) → place ≤ m → Placed m ts → RestPlaced m r →
+        HeadPlaced m (unquotedStart s d place w ts r)
     unquoted-placed d place w ts missing at h k = h
     unquoted-placed d place w ts (rest us) at h k = opened-placed d (firstPlace ts) _ (first-placed ts h) (call-placed place (functionOf w) us at k)
 
@@ -139,7 +141,8 @@ module _ (m : ℕ) where
     head-placed d (Fault f ∷ ts) h = h .0
 
   -- ---- an expression
-  on-rest-placed : (k : ℕ) (ts : List Token) (then : List Token → ParseResult) (other : ParseResult) → Placed m ts → ((us : List Token) → Placed m us → GotPlaced m (then us)) → GotPlaced m other → GotPlaced m (onRest (after k ts) then other)
+  on-rest-placed : (k : ℕ) (ts : List Token) (then : List Token → ParseResult) (other : ParseResult) → Placed m ts →
+      ((us : List Token) → Placed m us → GotPlaced m (then us)) → GotPlaced m other → GotPlaced m (onRest (after k ts) then other)
   on-rest-placed k ts then other h f g = go (after k ts) (after-placed k ts h)
     where
       go : (r : Rest) → RestPlaced m r → GotPlaced m (onRest r then other)
@@ -154,7 +157,9 @@ module _ (m : ℕ) where
   close-placed (got r ts) h = on-rest-placed closeBracket ts _ _ h (λ us k. k) (first-placed ts h)
   close-placed (bad f) h = h
 
-  by-head-placed : (x : PrimaryStart) (inner : List Token → ParseResult) (list : Join → List Token → ParseResult) → HeadPlaced m x → ((ts : List Token) → Placed m ts → GotPlaced m (inner ts)) → ((j : Join) (ts : List Token) → Placed m ts → GotPlaced m (list j ts)) → GotPlaced m (byStart x inner list)
+  by-head-placed : (x : PrimaryStart) (inner : List Token → ParseResult) (list : Join → List Token → ParseResult) →
+      HeadPlaced m x → ((ts : List Token) → Placed m ts → GotPlaced m (inner ts)) →
+      ((j : Join) (ts : List Token) → Placed m ts → GotPlaced m (list j ts)) → GotPlaced m (byStart x inner list)
   by-head-placed (aLeaf l ts) inner list h i e = h
   by-head-placed (aGroup ts) inner list h i e = close-placed (inner ts) (i ts h)
   by-head-placed (aList j p ts) inner list h i e = on-rest-placed closeBracket ts _ (list j ts) (h .1) (λ us k. h .0) (e j ts (h .1))
@@ -172,7 +177,8 @@ module _ (m : ℕ) where
       or-more-placed zero d g h = omega arith
       or-more-placed (suc f) d (bad r) h = h
       or-more-placed (suc f) d (got l ts) h =
-          on-rest-placed bar ts _ (got l ts) h (λ us k. or-more-placed f d (onto any l (andIn f s d us)) (onto-placed any l (andIn f s d us) (and-placed f d us k))) h
+          on-rest-placed bar ts _ (got l ts) h
+          (λ us k. or-more-placed f d (onto any l (andIn f s d us)) (onto-placed any l (andIn f s d us) (and-placed f d us k))) h
 
       and-placed : (f d : ℕ) (ts : List Token) → Placed m ts → GotPlaced m (andIn f s d ts)
       and-placed zero d ts h = omega arith
@@ -182,7 +188,8 @@ module _ (m : ℕ) where
       and-more-placed zero d g h = omega arith
       and-more-placed (suc f) d (bad r) h = h
       and-more-placed (suc f) d (got l ts) h =
-          on-rest-placed ampersand ts _ (got l ts) h (λ us k. and-more-placed f d (onto all l (primaryIn f s d us)) (onto-placed all l (primaryIn f s d us) (primary-placed f d us k))) h
+          on-rest-placed ampersand ts _ (got l ts) h
+          (λ us k. and-more-placed f d (onto all l (primaryIn f s d us)) (onto-placed all l (primaryIn f s d us) (primary-placed f d us k))) h
 
       primary-placed : (f d : ℕ) (ts : List Token) → Placed m ts → GotPlaced m (primaryIn f s d ts)
       primary-placed zero d ts h = omega arith

@@ -45,7 +45,8 @@ plus-up : (n k m : ℕ) (x : Parsed) → n + k ≤ m → UpTo k x → UpTo m (pl
 plus-up n k m (Value i) l h = omega arith
 plus-up n k m Invalid l h = tt
 
-then-up : (x : Part) (len at k m : ℕ) (later : ℕ → Parsed) → partMost + k ≤ m → ((n next : ℕ) → x ≡ Of n next → n ≤ partMost) → ((next : ℕ) → UpTo k (later next)) → UpTo m (partThen x len at later)
+then-up : (x : Part) (len at k m : ℕ) (later : ℕ → Parsed) → partMost + k ≤ m → ((n next : ℕ) → x ≡ Of n next → n ≤ partMost) →
+    ((next : ℕ) → UpTo k (later next)) → UpTo m (partThen x len at later)
 then-up (Of n next) len at k m later l h g = go (ltb next len) (h n next refl)
   where
     go : (v : Bool) → n ≤ partMost → UpTo m (cond v (plus n (later next)) (Value n))
@@ -57,7 +58,8 @@ then-up Not len at k m later l h g = go (later at) (g at)
     go (Value n) i = omega arith
     go Invalid i = tt
 
-parts-up : (us : List NamedUnit) (w : List ℕ) → ((i at n next : ℕ) → partAt (getD us i (unit "" 0)) w at ≡ Of n next → n ≤ partMost) → (at : ℕ) → UpTo (length us * partMost) (partsFrom us w at)
+parts-up : (us : List NamedUnit) (w : List ℕ) →
+    ((i at n next : ℕ) → partAt (getD us i (unit "" 0)) w at ≡ Of n next → n ≤ partMost) → (at : ℕ) → UpTo (length us * partMost) (partsFrom us w at)
 unfolding partsFrom
 parts-up [] w h at = tt
 parts-up (u ∷ us) w h at =

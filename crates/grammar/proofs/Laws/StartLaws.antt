@@ -80,7 +80,8 @@ module _ {s : List ℕ} {low lo most : ℕ} {g : grammar.PrimaryStart} where
 
 -- ---- how a primary begins, by the token that is there
 -- neither a bracket nor a word
-none-by : (s : List ℕ) (d : ℕ) (t : Token) (ts : List Token) → (tokenKind t ≡ openBracket → ⊥) → (tokenKind t ≡ 6 → ⊥) → startBy s d t ts ≡ refuse noExpression (placeOf t)
+none-by : (s : List ℕ) (d : ℕ) (t : Token) (ts : List Token) → (tokenKind t ≡ openBracket → ⊥) → (tokenKind t ≡ 6 → ⊥) →
+    startBy s d t ts ≡ refuse noExpression (placeOf t)
 unfolding placeOf
 none-by s d (End p) ts o w = refl
 none-by s d (Open p n) ts o w = absurd (o refl)

@@ -105,14 +105,17 @@ unfolding part
 part-short s a b = omega (arith, length-take (b - a) (drop a s), length-drop a s)
 
 module _ (s : List ℕ) (ts : List Token) where
-  closed-begun : (us : List Token) (p : ℕ) (then : List Token → PrimaryStart) → ((vs : List Token) → Taken us vs 1 0 → Begun s ts (then vs)) → Begun s ts (expecting bracketExpected (after closeBracket us) p then)
+  closed-begun : (us : List Token) (p : ℕ) (then : List Token → PrimaryStart) →
+      ((vs : List Token) → Taken us vs 1 0 → Begun s ts (then vs)) → Begun s ts (expecting bracketExpected (after closeBracket us) p then)
   closed-begun us p then f = by-after (λ r. Begun s ts (expecting bracketExpected r p then)) closeBracket us (omega arith) (omega arith) f
 
-  valued-begun : (x : Parsed) (number p : ℕ) (then : ℕ → PrimaryStart) → Numbered (refusal number p) → ((n : ℕ) → x ≡ Value n → Begun s ts (then n)) → Begun s ts (valued x number p then)
+  valued-begun : (x : Parsed) (number p : ℕ) (then : ℕ → PrimaryStart) → Numbered (refusal number p) →
+      ((n : ℕ) → x ≡ Value n → Begun s ts (then n)) → Begun s ts (valued x number p then)
   valued-begun (Value n) number p then l f = f n refl
   valued-begun Invalid number p then l f = l
 
-  expected-begun : (us : List Token) (then : ℕ → List ℕ → List Token → PrimaryStart) → ((p : ℕ) (w : List ℕ) (vs : List Token) → Taken us vs 1 0 → Begun s ts (then p w vs)) → Begun s ts (requireWord (expectedWord s us) then)
+  expected-begun : (us : List Token) (then : ℕ → List ℕ → List Token → PrimaryStart) →
+      ((p : ℕ) (w : List ℕ) (vs : List Token) → Taken us vs 1 0 → Begun s ts (then p w vs)) → Begun s ts (requireWord (expectedWord s us) then)
   unfolding expectedWord
   expected-begun [] then f = omega arith
   expected-begun (End p ∷ us) then f = omega arith
@@ -154,7 +157,8 @@ module _ (s : List ℕ) (ts : List Token) where
     unfolding atLeastStart
     at-least-begun place =
         expected-begun us _ (λ p w vs i. valued-begun (countOf w) _ _ _ (omega arith) (λ n e.
-        by-after (λ r. Begun s ts (expecting missingArgument r (firstPlace vs) (aList (atLeast n) place))) comma vs (omega arith) (omega arith) (λ xs j. (omega arith, count-small w e))))
+        by-after (λ r. Begun s ts (expecting missingArgument r (firstPlace vs) (aList (atLeast n) place))) comma vs (omega arith)
+        (omega arith) (λ xs j. (omega arith, count-small w e))))
 
     call-begun : (place : ℕ) (f : Function) → Begun s ts (callStart s place f us)
     call-begun place OlderThan = older-begun
@@ -211,7 +215,8 @@ module _ {s : List ℕ} where
   before l m t = record { taken = omega arith; ascii = m .ascii; small = m .small }
 
   -- two, with a sign between them
-  both : {ts us vs xs : List Token} {x y z : ℕ} {ws zs : List ℕ} {S T : Type 0} → z ≤ x + y + 1 → Made s ts us x ws S → Taken us vs 1 0 → Made s vs xs y zs T → Made s ts xs z (ws ++ zs) (S × T)
+  both : {ts us vs xs : List Token} {x y z : ℕ} {ws zs : List ℕ} {S T : Type 0} → z ≤ x + y + 1 → Made s ts us x ws S →
+      Taken us vs 1 0 → Made s vs xs y zs T → Made s ts xs z (ws ++ zs) (S × T)
   both {ws = ws} {zs} l m t n =
       record {
         taken = omega (arith, length-append ws zs);
@@ -220,7 +225,8 @@ module _ {s : List ℕ} where
       }
 
   -- a combinator over its children
-  node-made : {ts us : List Token} (j : Join) (rs : Rules) (r : Rule) → joinArg j < 2 ^ 64 → Made s ts us (suc (sizes rs + size r)) (namesAll rs ++ names r) (SmallAll rs × Small r) → MadeRule s ts (node j rs r) us
+  node-made : {ts us : List Token} (j : Join) (rs : Rules) (r : Rule) → joinArg j < 2 ^ 64 →
+      Made s ts us (suc (sizes rs + size r)) (namesAll rs ++ names r) (SmallAll rs × Small r) → MadeRule s ts (node j rs r) us
   unfolding size names Small
   node-made j rs r l m = record { taken = m .taken; ascii = m .ascii; small = λ h. (l, m .small h) }
 
@@ -239,7 +245,8 @@ module _ {s : List ℕ} where
       go true = record { taken = omega arith; ascii = m .ascii; small = λ h. m .small h .1 }
       go false = alone (node i rs r) m
 
-  chain-made : (j : Join) {ts us vs xs : List Token} (l r : Rule) → joinArg j < 2 ^ 64 → MadeRule s ts l us → Taken us vs 1 0 → MadeRule s vs r xs → MadeRule s ts (chain j l r) xs
+  chain-made : (j : Join) {ts us vs xs : List Token} (l r : Rule) → joinArg j < 2 ^ 64 → MadeRule s ts l us → Taken us vs 1 0 →
+      MadeRule s vs r xs → MadeRule s ts (chain j l r) xs
   unfolding chain
   chain-made j l r h m t n = node-made j (leftRules j l) r h (both (omega arith) (left-made j l m) t n)
 
@@ -248,7 +255,8 @@ abbrev pub Holds : (Rule → List Token → Type 0) → ParseResult → Type 0
 Holds P (got r us) = P r us
 Holds P (bad f) = Unit {0}
 
-pub on-rest : (P : ParseResult → Type 0) (k : ℕ) (ts : List Token) (then : List Token → ParseResult) (other : ParseResult) → Sign k → ((us : List Token) → Taken ts us 1 0 → P (then us)) → P other → P (onRest (after k ts) then other)
+pub on-rest : (P : ParseResult → Type 0) (k : ℕ) (ts : List Token) (then : List Token → ParseResult) (other : ParseResult) →
+    Sign k → ((us : List Token) → Taken ts us 1 0 → P (then us)) → P other → P (onRest (after k ts) then other)
 on-rest P k ts then other l f g = by-after (λ r. P (onRest r then other)) k ts l g f
 
 module _ (s : List ℕ) where
@@ -257,33 +265,43 @@ module _ (s : List ℕ) where
   holds-behind ts us (bad f) t m = tt
 
   -- a chain's turn
-  holds-onto : (j : Join) (ts us vs : List Token) (l : Rule) (g : ParseResult) → joinArg j < 2 ^ 64 → MadeRule s ts l us → Taken us vs 1 0 → Holds (MadeRule s vs) g → Holds (MadeRule s ts) (onto j l g)
+  holds-onto : (j : Join) (ts us vs : List Token) (l : Rule) (g : ParseResult) → joinArg j < 2 ^ 64 → MadeRule s ts l us →
+      Taken us vs 1 0 → Holds (MadeRule s vs) g → Holds (MadeRule s ts) (onto j l g)
   holds-onto j ts us vs l (got r xs) h m t n = chain-made j l r h m t n
   holds-onto j ts us vs l (bad f) h m t n = tt
 
-  holds-turn : (k : ℕ) (j : Join) (operand : List Token → ParseResult) (again : ParseResult → ParseResult) → Sign k → joinArg j < 2 ^ 64 → ((us : List Token) → Holds (MadeRule s us) (operand us)) → ((ts : List Token) (g : ParseResult) → Holds (MadeRule s ts) g → Holds (MadeRule s ts) (again g)) → (ts us : List Token) (l : Rule) → MadeRule s ts l us → Holds (MadeRule s ts) (onRest (after k us) (λ vs. again (onto j l (operand vs))) (got l us))
-  holds-turn k j operand again p h e a ts us l m = on-rest (Holds (MadeRule s ts)) k us _ (got l us) p (λ vs t. a ts _ (holds-onto j ts us vs l (operand vs) h m t (e vs))) m
+  holds-turn : (k : ℕ) (j : Join) (operand : List Token → ParseResult) (again : ParseResult → ParseResult) → Sign k →
+      joinArg j < 2 ^ 64 → ((us : List Token) → Holds (MadeRule s us) (operand us)) →
+      ((ts : List Token) (g : ParseResult) → Holds (MadeRule s ts) g → Holds (MadeRule s ts) (again g)) →
+      (ts us : List Token) (l : Rule) → MadeRule s ts l us → Holds (MadeRule s ts) (onRest (after k us) (λ vs. again (onto j l (operand vs))) (got l us))
+  holds-turn k j operand again p h e a ts us l m =
+      on-rest (Holds (MadeRule s ts)) k us _ (got l us) p (λ vs t. a ts _ (holds-onto j ts us vs l (operand vs) h m t (e vs))) m
 
   -- an argument, the first and a later one
   holds-first : (ts : List Token) (g : ParseResult) → Holds (MadeRule s ts) g → Holds (λ r us. MadeRules s ts (more nil r) us) g
   holds-first ts (got r us) m = alone r m
   holds-first ts (bad f) m = tt
 
-  holds-next : (ts us vs : List Token) (rs : Rules) (g : ParseResult) → MadeRules s ts rs us → Taken us vs 1 0 → Holds (MadeRule s vs) g → Holds (λ r xs. MadeRules s ts (more rs r) xs) g
+  holds-next : (ts us vs : List Token) (rs : Rules) (g : ParseResult) → MadeRules s ts rs us → Taken us vs 1 0 →
+      Holds (MadeRule s vs) g → Holds (λ r xs. MadeRules s ts (more rs r) xs) g
   unfolding size names Small
   holds-next ts us vs rs (got r xs) m t n = both (omega arith) m t n
   holds-next ts us vs rs (bad f) m t n = tt
 
   -- a bracket that closes
   holds-closed : (ts us : List Token) (g : ParseResult) → Taken ts us 1 0 → Holds (MadeRule s us) g → Holds (MadeRule s ts) (closeAfter g)
-  holds-closed ts us (got r vs) t m = on-rest (Holds (MadeRule s ts)) closeBracket vs (λ xs. got r xs) _ (omega arith) (λ xs u. behind t (before (omega arith) m u)) tt
+  holds-closed ts us (got r vs) t m =
+      on-rest (Holds (MadeRule s ts)) closeBracket vs (λ xs. got r xs) _ (omega arith) (λ xs u. behind t (before (omega arith) m u)) tt
   holds-closed ts us (bad f) t m = tt
 
-  holds-head : (ts : List Token) (h : PrimaryStart) (inner : List Token → ParseResult) (list : Join → List Token → ParseResult) → Begun s ts h → ((us : List Token) → Holds (MadeRule s us) (inner us)) → ((j : Join) (us : List Token) → joinArg j < 2 ^ 64 → Holds (MadeRule s us) (list j us)) → Holds (MadeRule s ts) (byStart h inner list)
+  holds-head : (ts : List Token) (h : PrimaryStart) (inner : List Token → ParseResult) (list : Join → List Token → ParseResult) →
+      Begun s ts h → ((us : List Token) → Holds (MadeRule s us) (inner us)) →
+      ((j : Join) (us : List Token) → joinArg j < 2 ^ 64 → Holds (MadeRule s us) (list j us)) → Holds (MadeRule s ts) (byStart h inner list)
   unfolding size names Small
   holds-head ts (aLeaf l us) inner list b i e = b
   holds-head ts (aGroup us) inner list b i e = holds-closed ts us (inner us) b (i us)
-  holds-head ts (aList j p us) inner list b i e = on-rest (Holds (MadeRule s ts)) closeBracket us _ (list j us) (omega arith) (λ vs t. tt) (holds-behind ts us (list j us) (b .0) (e j us (b .1)))
+  holds-head ts (aList j p us) inner list b i e =
+      on-rest (Holds (MadeRule s ts)) closeBracket us _ (list j us) (omega arith) (λ vs t. tt) (holds-behind ts us (list j us) (b .0) (e j us (b .1)))
   holds-head ts (refused f) inner list b i e = tt
 
   mutual
@@ -296,7 +314,8 @@ module _ (s : List ℕ) where
     or-more : (f d : ℕ) (ts : List Token) (g : ParseResult) → Holds (MadeRule s ts) g → Holds (MadeRule s ts) (orMore f s d g)
     or-more zero d ts g m = tt
     or-more (suc f) d ts (bad r) m = tt
-    or-more (suc f) d ts (got l us) m = holds-turn bar any (andIn f s d) (orMore f s d) (omega arith) (omega arith) (λ vs. and-made f d vs) (λ xs g. or-more f d xs g) ts us l m
+    or-more (suc f) d ts (got l us) m =
+        holds-turn bar any (andIn f s d) (orMore f s d) (omega arith) (omega arith) (λ vs. and-made f d vs) (λ xs g. or-more f d xs g) ts us l m
 
     pub and-made : (f d : ℕ) (ts : List Token) → Holds (MadeRule s ts) (andIn f s d ts)
     and-made zero d ts = tt
@@ -305,7 +324,8 @@ module _ (s : List ℕ) where
     and-more : (f d : ℕ) (ts : List Token) (g : ParseResult) → Holds (MadeRule s ts) g → Holds (MadeRule s ts) (andMore f s d g)
     and-more zero d ts g m = tt
     and-more (suc f) d ts (bad r) m = tt
-    and-more (suc f) d ts (got l us) m = holds-turn ampersand all (primaryIn f s d) (andMore f s d) (omega arith) (omega arith) (λ vs. primary-made f d vs) (λ xs g. and-more f d xs g) ts us l m
+    and-more (suc f) d ts (got l us) m =
+        holds-turn ampersand all (primaryIn f s d) (andMore f s d) (omega arith) (omega arith) (λ vs. primary-made f d vs) (λ xs g. and-more f d xs g) ts us l m
 
     pub primary-made : (f d : ℕ) (ts : List Token) → Holds (MadeRule s ts) (primaryIn f s d ts)
     primary-made zero d ts = tt
@@ -313,7 +333,8 @@ module _ (s : List ℕ) where
         holds-head ts (primaryStart s d ts) _ _ (head-begun s d ts) (λ us. or-made f (d + 1) us)
         (λ j us l. list-more f d j us nil (orIn f s (d + 1) us) l (holds-first us (orIn f s (d + 1) us) (or-made f (d + 1) us)))
 
-    list-more : (f d : ℕ) (j : Join) (ts : List Token) (rs : Rules) (g : ParseResult) → joinArg j < 2 ^ 64 → Holds (λ r us. MadeRules s ts (more rs r) us) g → Holds (MadeRule s ts) (listMore f s d j rs g)
+    list-more : (f d : ℕ) (j : Join) (ts : List Token) (rs : Rules) (g : ParseResult) → joinArg j < 2 ^ 64 →
+        Holds (λ r us. MadeRules s ts (more rs r) us) g → Holds (MadeRule s ts) (listMore f s d j rs g)
     list-more zero d j ts rs g l m = tt
     list-more (suc f) d j ts rs (bad r) l m = tt
     list-more (suc f) d j ts rs (got r us) l m =

@@ -23,7 +23,8 @@ use Rattle.image.proofs.Laws.TestLaws.{sized-true, ends-some, only-some
 
 module _ (s : List ℕ) (n m : ℕ) (bytes : AllBytes s) (long : length s ≡ 4 + 12 * n + m) where
   -- a node that is read has its tag, argument and name at their places
-  node-laid : (i t k z a : ℕ) (ws : List ℕ) → i < n → nodeAt s n i .kind ≡ k → nodeAt s n i .size ≡ z → nodeAt s n i .arg ≡ a → Has s (4 + 12 * n + t) ws → Laid s n i t (tag k z ∷ []) (a ∷ []) ws
+  node-laid : (i t k z a : ℕ) (ws : List ℕ) → i < n → nodeAt s n i .kind ≡ k → nodeAt s n i .size ≡ z → nodeAt s n i .arg ≡ a →
+      Has s (4 + 12 * n + t) ws → Laid s n i t (tag k z ∷ []) (a ∷ []) ws
   unfolding nodeAt packed
   node-laid i t k z a ws lt p q e h =
       let x : leAt s (4 + 4 * i) 4 ≡ tag k z = omega arith in
@@ -80,13 +81,17 @@ module _ (s : List ℕ) (n m : ℕ) (bytes : AllBytes s) (long : length s ≡ 4 
     small : SmallAll rs
 
   -- one node more after them
-  node-taken : (i t k z a : ℕ) (rs : Rules) (ws : List ℕ) → i < n → nodeAt s n i .kind ≡ k → nodeAt s n i .size ≡ z → nodeAt s n i .arg ≡ a → Has s (4 + 12 * n + t) ws → Taken i t rs → Laid s n 0 0 (tagsAll rs ++ (tag k z ∷ [])) (argsAll rs 0 ++ (a ∷ [])) (namesAll rs ++ ws)
+  node-taken : (i t k z a : ℕ) (rs : Rules) (ws : List ℕ) → i < n → nodeAt s n i .kind ≡ k → nodeAt s n i .size ≡ z →
+      nodeAt s n i .arg ≡ a → Has s (4 + 12 * n + t) ws → Taken i t rs →
+      Laid s n 0 0 (tagsAll rs ++ (tag k z ∷ [])) (argsAll rs 0 ++ (a ∷ [])) (namesAll rs ++ ws)
   node-taken i t k z a rs ws lt p q e w h =
       let x = length-tagsAll rs in
       let y = length-argsAll rs 0 in
-      laid-append s n 0 i 0 t (tagsAll rs) (tag k z ∷ []) (argsAll rs 0) (a ∷ []) (namesAll rs) ws (omega arith) (omega arith) (omega arith) (h .laid) (node-laid i t k z a ws lt p q e w)
+      laid-append s n 0 i 0 t (tagsAll rs) (tag k z ∷ []) (argsAll rs 0) (a ∷ []) (namesAll rs) ws (omega arith) (omega arith)
+      (omega arith) (h .laid) (node-laid i t k z a ws lt p q e w)
 
-  leaf-taken : (i t u : ℕ) (rs : Rules) (l : Leaf) → i < n → nodeAt s n i .size ≡ 1 → LeafAt (nodeAt s n i .kind) (nodeAt s n i .arg) t u l → Taken i t rs → Taken (suc i) u (more rs (leaf l))
+  leaf-taken : (i t u : ℕ) (rs : Rules) (l : Leaf) → i < n → nodeAt s n i .size ≡ 1 →
+      LeafAt (nodeAt s n i .kind) (nodeAt s n i .arg) t u l → Taken i t rs → Taken (suc i) u (more rs (leaf l))
   unfolding size names tags args Small
   leaf-taken i t u rs l lt z d h =
       let p : 0 + length (namesAll rs) ≡ t = omega arith in
@@ -98,7 +103,8 @@ module _ (s : List ℕ) (n m : ℕ) (bytes : AllBytes s) (long : length s ≡ 4 
         small = (h .small, omega arith);
       }
 
-  join-taken : (i t : ℕ) (ps rs : Rules) (r : Rule) (j : Join) → i < n → nodeAt s n i .kind ≡ joinKind j → nodeAt s n i .size ≡ suc (sizes rs + size r) → nodeAt s n i .arg ≡ joinArg j → Taken i t (more (chain ps rs) r) → Taken (suc i) t (more ps (node j rs r))
+  join-taken : (i t : ℕ) (ps rs : Rules) (r : Rule) (j : Join) → i < n → nodeAt s n i .kind ≡ joinKind j →
+      nodeAt s n i .size ≡ suc (sizes rs + size r) → nodeAt s n i .arg ≡ joinArg j → Taken i t (more (chain ps rs) r) → Taken (suc i) t (more ps (node j rs r))
   unfolding Has
   join-taken i t ps rs r j lt k z a h =
       let below = arg-below i lt in
@@ -110,7 +116,8 @@ module _ (s : List ℕ) (n m : ℕ) (bytes : AllBytes s) (long : length s ≡ 4 
         small = small-close j ps rs r (omega arith) (h .small);
       }
 
-  place-taken : (i t u : ℕ) (rs out : Rules) (w : Meaning) → i < n → Says (nodeAt s n i .kind) (nodeAt s n i .arg) t u w → place w (nodeAt s n i .size) rs ≡ some out → Taken i t rs → Taken (suc i) u out
+  place-taken : (i t u : ℕ) (rs out : Rules) (w : Meaning) → i < n → Says (nodeAt s n i .kind) (nodeAt s n i .arg) t u w →
+      place w (nodeAt s n i .size) rs ≡ some out → Taken i t rs → Taken (suc i) u out
   unfolding place
   place-taken i t u rs out (aLeaf l) lt d e h =
       let (z, f) = when-some (eqb (nodeAt s n i .size) 1) (some (more rs (leaf l))) e in
@@ -133,7 +140,8 @@ module _ (s : List ℕ) (n m : ℕ) (bytes : AllBytes s) (long : length s ≡ 4 
       let (rs, e₁, e₂) = bind-some (build (cellAt s n) i) _ e in
       let (t, f₁, f₂) = bind-some (nameEnd (nodeAt s n) i) _ f in
       let l = next-le (nodeAt s n i .kind) (nodeAt s n i .arg) t u f₂ .0 in
-      place-taken i t u rs out (cellAt s n i .what) le (says (nodeAt s n i .kind) (nodeAt s n i .arg) t u short f₂) e₂ (taken i t rs (omega arith) (omega arith) e₁ f₁)
+      place-taken i t u rs out (cellAt s n i .what) le (says (nodeAt s n i .kind) (nodeAt s n i .arg) t u short f₂) e₂
+      (taken i t rs (omega arith) (omega arith) e₁ f₁)
 
 -- what was read: its sizes, and its nodes and names at their places
 record Parts (s : List ℕ) (n m : ℕ) (r : Rule) : Type 0 where
@@ -143,13 +151,20 @@ record Parts (s : List ℕ) (n m : ℕ) (r : Rule) : Type 0 where
   laid : Laid s n 0 0 (tags r) (args r 0) (names r)
   fits : Fits r
 
-taken-parts : (s : List ℕ) (n m : ℕ) (r : Rule) (bytes : AllBytes s) (long : length s ≡ 4 + 12 * n + m) → n ≤ 2048 → m ≤ 2048 → allAscii (drop (4 + 12 * n) s) ≡ true → Taken s n m bytes long n m (more nil r) → Parts s n m r
+taken-parts : (s : List ℕ) (n m : ℕ) (r : Rule) (bytes : AllBytes s) (long : length s ≡ 4 + 12 * n + m) → n ≤ 2048 → m ≤ 2048 →
+    allAscii (drop (4 + 12 * n) s) ≡ true → Taken s n m bytes long n m (more nil r) → Parts s n m r
 unfolding size names tags args Small
 taken-parts s n m r bytes long few short ascii h =
     let p : n ≡ size r = omega arith in
     let q : m ≡ length (names r) = sym (h .ends) in
     let e : drop (4 + 12 * n) s ≡ names r = has-rest s (names r) (4 + 12 * n) (omega arith) (rw add-zero at (h .laid .names)) in
-    record { nodes = p; ends = q; long = long; laid = h .laid; fits = record { nodes = omega arith; bytes = omega arith; ascii = rw e at ascii; small = h .small .1 } }
+    record {
+      nodes = p;
+      ends = q;
+      long = long;
+      laid = h .laid;
+      fits = record { nodes = omega arith; bytes = omega arith; ascii = rw e at ascii; small = h .small .1 };
+    }
 
 parts : (s : List ℕ) (n m : ℕ) (r : Rule) → AllBytes s → decodeParts s n m ≡ some r → Parts s n m r
 unfolding decodeParts

@@ -122,6 +122,7 @@ module _ (s : List ℕ) (n : ℕ) (ts xs ws : List ℕ) (few : length ts ≡ n) 
       (has-append s (packed 8 xs) ws _ _ to-names (l .args) (l .names))))
 
 -- a rule's image has the two counts, and from its first node and name byte on the rule's own
-pub encode-laid : (r : Rule) → Has (encode r) 0 (leBytes 2 (size r)) × Has (encode r) 2 (leBytes 2 (length (names r))) × Laid (encode r) (size r) 0 0 (tags r) (args r 0) (names r)
+pub encode-laid : (r : Rule) →
+    Has (encode r) 0 (leBytes 2 (size r)) × Has (encode r) 2 (leBytes 2 (length (names r))) × Laid (encode r) (size r) 0 0 (tags r) (args r 0) (names r)
 unfolding encode Has
 encode-laid r = image-laid (encode r) (size r) (tags r) (args r 0) (names r) (length-tags r) (length-args r 0) (take-length (encode r))

@@ -84,7 +84,8 @@ module _ (f : ℕ → Cell) where
       let pos = size-pos (c .child) in
       let h = rw (c .was) at (b .standing) in
       let (x, y) = encoded-chain f 0 (c .before) (c .children) (h .0) in
-      let d : 0 + sizes (chain (c .before) (c .children)) ≡ 0 + sizes (c .before) + sizes (c .children) = omega (arith, sizes-chain (c .before) (c .children)) in
+      let d : 0 + sizes (chain (c .before) (c .children)) ≡ 0 + sizes (c .before) + sizes (c .children) =
+      omega (arith, sizes-chain (c .before) (c .children)) in
       let q : 0 + sizes (c .before) + sizes (c .children) + size (c .child) ≡ i = omega (arith, b .sized) in
       let s : f i .size ≡ suc (sizes (c .children) + size (c .child)) = omega (arith, c .sized) in
       rw (c .becomes) (record { standing = (x, (y, rw d at (h .1), rw q m, rw q s)); sized = omega (arith, b .sized) })

@@ -68,7 +68,8 @@ close-split j rs zero h = absurd (omega arith)
 close-split j nil (suc m) h = refl
 close-split j (more rs r) (suc m) h = by (leb (size r) (suc m)) (split rs (suc m - size r)) _ _
   where
-    by : {A B C : Type 0} (b : Bool) (o : Option A) (f : A → B) (g : A → C) → isSome (when b (bind o (λ a. some (f a)))) ≡ isSome (when b (bind o (λ a. some (g a))))
+    by : {A B C : Type 0} (b : Bool) (o : Option A) (f : A → B) (g : A → C) →
+        isSome (when b (bind o (λ a. some (f a)))) ≡ isSome (when b (bind o (λ a. some (g a))))
     by true o f g = isSome-bind o f ∙ sym (isSome-bind o g)
     by false o f g = refl
 
@@ -130,7 +131,8 @@ module _ (f : ℕ → Cell) (from end : ℕ) where
         record {
           rest = d .before;
           built = record { standing = d .standing; sized = omega arith };
-          same = λ rs e. l .same rs e ∙ ap (λ (x : Rules). isSome (split x (at - from))) (d .is) ∙ rw (← p) (split-on (d .before) (d .child) (at - from) (omega arith) (omega arith));
+          same = λ rs e. l .same rs e ∙ ap (λ (x : Rules). isSome (split x (at - from))) (d .is)
+              ∙ rw (← p) (split-on (d .before) (d .child) (at - from) (omega arith) (omega arith));
         }
 
 -- what a kind and an argument mean
@@ -182,7 +184,8 @@ module _ (s : List ℕ) (n : ℕ) where
 
   -- whether node i, as it was read, can follow the rules that the nodes before it make
   module _ (i : ℕ) {d : Node} (e : d ≡ nodeAt s n i) (ready : isSome (build (cellAt s n) i) ≡ true) where
-    fits-when : (w : Meaning) (b : Bool) → meaning s n (d .kind) (d .arg) ≡ w → ((rs : Rules) → build (cellAt s n) i ≡ some rs → isSome (place w (d .size) rs) ≡ b) → b ≡ isSome (build (cellAt s n) (suc i))
+    fits-when : (w : Meaning) (b : Bool) → meaning s n (d .kind) (d .arg) ≡ w →
+        ((rs : Rules) → build (cellAt s n) i ≡ some rs → isSome (place w (d .size) rs) ≡ b) → b ≡ isSome (build (cellAt s n) (suc i))
     unfolding build cellAt
     fits-when w b m h =
         let (rs, p) = isSome-true (build (cellAt s n) i) ready in
@@ -198,7 +201,8 @@ module _ (s : List ℕ) (n : ℕ) where
         by true rs = refl
         by false rs = refl
 
-    pub fits-unknown : isLeaf (d .kind) ≡ false → (d .kind ≡ atLeastKind → ⊥) → (atLeastKind ≤ d .kind → d .kind ≤ anyKind → 0 < d .arg) → false ≡ isSome (build (cellAt s n) (suc i))
+    pub fits-unknown : isLeaf (d .kind) ≡ false → (d .kind ≡ atLeastKind → ⊥) →
+        (atLeastKind ≤ d .kind → d .kind ≤ anyKind → 0 < d .arg) → false ≡ isSome (build (cellAt s n) (suc i))
     unfolding place
     fits-unknown h q p = fits-when nothing false (is-nothing (d .kind) (d .arg) h q p) (λ rs e. refl)
 
@@ -212,7 +216,8 @@ module _ (s : List ℕ) (n : ℕ) where
           let (j, m) = a-join in
           fits-when (aJoin j) false m (λ rs p. close-none j rs (d .size - 1) (λ x y. never (omega arith) (omega (arith, built (cellAt s n) i rs p .sized))))
 
-      pub fits-join : 2 ≤ d .size → d .size ≤ i + 1 → (b : Bool) → ((rs : Rules) → build (cellAt s n) i ≡ some rs → b ≡ isSome (split rs (i - (i + 1 - d .size)))) → b ≡ isSome (build (cellAt s n) (suc i))
+      pub fits-join : 2 ≤ d .size → d .size ≤ i + 1 → (b : Bool) →
+          ((rs : Rules) → build (cellAt s n) i ≡ some rs → b ≡ isSome (split rs (i - (i + 1 - d .size)))) → b ≡ isSome (build (cellAt s n) (suc i))
       unfolding place
       fits-join h k b says =
           let (j, m) = a-join in

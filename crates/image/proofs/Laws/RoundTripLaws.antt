@@ -19,7 +19,8 @@ use Rattle.image.proofs.Laws.BuildLaws.{chain, close-chain}
 use Rattle.image.proofs.Laws.TestLaws.{true-sized}
 
 -- what a kind and an argument mean
-means-leaf : (s : List ℕ) (n t : ℕ) (l : Leaf) → length (leafName l) < 65536 → Has s (4 + 12 * n + t) (leafName l) → meaning s n (leafKind l) (leafArg l t) ≡ aLeaf l
+means-leaf : (s : List ℕ) (n t : ℕ) (l : Leaf) → length (leafName l) < 65536 → Has s (4 + 12 * n + t) (leafName l) →
+    meaning s n (leafKind l) (leafArg l t) ≡ aLeaf l
 unfolding meaning Has
 means-leaf s n t (named w) h e =
     let p : (t * 65536 + length w) % 65536 ≡ length w = omega arith in
@@ -56,7 +57,8 @@ leaf-below (readable d) t h k = h
 
 module _ (s : List ℕ) (n : ℕ) where
   -- a node with its tag, argument and name at their places is read
-  node-at : (i t k z a : ℕ) (ws : List ℕ) → k < 256 → z ≤ 2048 → a < 2 ^ 64 → Laid s n i t (tag k z ∷ []) (a ∷ []) ws → nodeAt s n i ≡ record { kind = k; size = z; arg = a }
+  node-at : (i t k z a : ℕ) (ws : List ℕ) → k < 256 → z ≤ 2048 → a < 2 ^ 64 → Laid s n i t (tag k z ∷ []) (a ∷ []) ws →
+      nodeAt s n i ≡ record { kind = k; size = z; arg = a }
   unfolding nodeAt packed
   node-at i t k z a ws k-lt z-le a-lt l =
       let x = number-at s (4 + 4 * i) 4 (tag k z) (omega arith) (l .tags) in
@@ -71,30 +73,37 @@ module _ (s : List ℕ) (n : ℕ) where
     named : nameEnd (nodeAt s n) i ≡ some t
 
   -- one node more
-  step : (i t u : ℕ) (rs qs : Rules) (d : Node) → nodeAt s n i ≡ d → place (meaning s n (d .kind) (d .arg)) (d .size) rs ≡ some qs → nextName (d .kind) (d .arg) t ≡ some u → Made i t rs → Made (suc i) u qs
+  step : (i t u : ℕ) (rs qs : Rules) (d : Node) → nodeAt s n i ≡ d →
+      place (meaning s n (d .kind) (d .arg)) (d .size) rs ≡ some qs → nextName (d .kind) (d .arg) t ≡ some u → Made i t rs → Made (suc i) u qs
   unfolding build cellAt nameEnd
   step i t u rs qs d e p q m = record { built = rw (m .built, e) p; named = rw (m .named, e) q }
 
   -- where rules were made of the first i nodes, and the next ones are a rule's, it is made too; and so for some rules
   abbrev RuleMade : Rule → Type 0
-  RuleMade r = (i t : ℕ) (ps : Rules) → Small r → size r ≤ 2048 → t + length (names r) ≤ 2048 → Laid s n i t (tags r) (args r t) (names r) → Made i t ps → Made (i + size r) (t + length (names r)) (more ps r)
+  RuleMade r =
+      (i t : ℕ) (ps : Rules) → Small r → size r ≤ 2048 → t + length (names r) ≤ 2048 →
+      Laid s n i t (tags r) (args r t) (names r) → Made i t ps → Made (i + size r) (t + length (names r)) (more ps r)
 
   abbrev RulesMade : Rules → Type 0
-  RulesMade rs = (i t : ℕ) (ps : Rules) → SmallAll rs → sizes rs ≤ 2048 → t + length (namesAll rs) ≤ 2048 → Laid s n i t (tagsAll rs) (argsAll rs t) (namesAll rs) → Made i t ps → Made (i + sizes rs) (t + length (namesAll rs)) (chain ps rs)
+  RulesMade rs =
+      (i t : ℕ) (ps : Rules) → SmallAll rs → sizes rs ≤ 2048 → t + length (namesAll rs) ≤ 2048 →
+      Laid s n i t (tagsAll rs) (argsAll rs t) (namesAll rs) → Made i t ps → Made (i + sizes rs) (t + length (namesAll rs)) (chain ps rs)
 
   leaf-made : (l : Leaf) → RuleMade (leaf l)
   unfolding size names tags args Small place
   leaf-made l i t ps sm few short laid m =
       let k = leaf-kind l in
       let e = node-at i t (leafKind l) 1 (leafArg l t) (leafName l) k (omega arith) (leaf-below l t sm short) laid in
-      rw add-one (step i t (t + length (leafName l)) ps (more ps (leaf l)) _ e (rw (means-leaf s n t l (omega arith) (laid .names))) (next-leaf t l (omega arith)) m)
+      rw add-one
+      (step i t (t + length (leafName l)) ps (more ps (leaf l)) _ e (rw (means-leaf s n t l (omega arith) (laid .names))) (next-leaf t l (omega arith)) m)
 
   more-made : (rs : Rules) (r : Rule) → RulesMade rs → RuleMade r → RulesMade (more rs r)
   unfolding size names tags args Small chain
   more-made rs r hs h i t ps sm few short laid m =
       let u = t + length (namesAll rs) in
       let a = length-append (namesAll rs) (names r) in
-      let (x, y) = laid-cut s n i (i + sizes rs) t u (tagsAll rs) (tags r) (argsAll rs t) (args r u) (namesAll rs) (names r) (ap (i +_) (length-tagsAll rs)) (ap (i +_) (length-argsAll rs t)) refl laid in
+      let (x, y) = laid-cut s n i (i + sizes rs) t u (tagsAll rs) (tags r) (argsAll rs t) (args r u) (namesAll rs) (names r)
+      (ap (i +_) (length-tagsAll rs)) (ap (i +_) (length-argsAll rs t)) refl laid in
       let w = h (i + sizes rs) u (chain ps rs) (sm .1) (omega arith) (omega arith) y (hs i t ps (sm .0) (omega arith) (omega arith) x m) in
       let p : i + (sizes rs + size r) ≡ i + sizes rs + size r = omega arith in
       let q : t + length (namesAll rs ++ names r) ≡ u + length (names r) = omega arith in
@@ -106,11 +115,13 @@ module _ (s : List ℕ) (n : ℕ) where
       let k = sizes rs + size r in
       let cs = more rs r in
       let u = t + length (namesAll cs) in
-      let (x, y) = laid-cut s n i (i + k) t u (tagsAll cs) (tag (joinKind j) (suc k) ∷ []) (argsAll cs t) (joinArg j ∷ []) (namesAll cs) [] (ap (i +_) (length-tagsAll cs)) (ap (i +_) (length-argsAll cs t)) refl (rw append-nil laid) in
+      let (x, y) = laid-cut s n i (i + k) t u (tagsAll cs) (tag (joinKind j) (suc k) ∷ []) (argsAll cs t) (joinArg j ∷ [])
+      (namesAll cs) [] (ap (i +_) (length-tagsAll cs)) (ap (i +_) (length-argsAll cs t)) refl (rw append-nil laid) in
       let e = node-at (i + k) u (joinKind j) (suc k) (joinArg j) [] (join-kind j) few (sm .0) y in
       let p : i + suc k ≡ suc (i + k) = omega arith in
       let q : suc k - 1 ≡ k = omega arith in
-      rw p (step (i + k) u u (more (chain ps rs) r) (more ps (node j rs r)) _ e (rw (means-join s n j, q) (close-chain j ps rs r)) (next-join u j) (h i t ps (sm .1) (omega arith) short x m))
+      rw p (step (i + k) u u (more (chain ps rs) r) (more ps (node j rs r)) _ e
+      (rw (means-join s n j, q) (close-chain j ps rs r)) (next-join u j) (h i t ps (sm .1) (omega arith) short x m))
 
   mutual
     unfolding size names chain

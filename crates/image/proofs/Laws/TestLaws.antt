@@ -47,7 +47,8 @@ by-parts : (s : List ℕ) (n m : ℕ) → n ≡ nodeCountIn s → m ≡ nameByte
 unfolding decode
 by-parts s n m p q = ap₂ (λ (x y : ℕ). isSome (decodeParts s x y)) p q
 
-pub not-sized : (s : List ℕ) (n m : ℕ) → n ≡ nodeCountIn s → m ≡ nameByteCountIn s → (0 < n → n ≤ 2048 → m ≤ 2048 → length s ≡ namesStart n + m → ⊥) → false ≡ isSome (decode s)
+pub not-sized : (s : List ℕ) (n m : ℕ) → n ≡ nodeCountIn s → m ≡ nameByteCountIn s →
+    (0 < n → n ≤ 2048 → m ≤ 2048 → length s ≡ namesStart n + m → ⊥) → false ≡ isSome (decode s)
 unfolding decodeParts
 not-sized s n m p q never = by (sized s n m) refl ∙ by-parts s n m p q
   where

@@ -15,7 +15,9 @@ use Rattle.image.proofs.write_image.Statement.{statement}
 use Rattle.image.proofs.write_image.Tie as tie
 
 -- the five parts, where n tags, n arguments and m name bytes are written
-parts : {s₁ s₂ s₃ s₄ s₅ : List ℕ} {n m : ℕ} (s ts xs ws : List ℕ) → length ts ≡ n → length xs ≡ n → length ws ≡ m → s₁ ≡ written s 0 (leBytes 2 n) → s₂ ≡ written s₁ 2 (leBytes 2 m) → s₃ ≡ written s₂ 4 (packed 4 ts) → s₄ ≡ written s₃ (4 + 4 * n) (packed 8 xs) → s₅ ≡ written s₄ (4 + 12 * n) ws → s₅ ≡ written s 0 (imageOf n ts xs ws)
+parts : {s₁ s₂ s₃ s₄ s₅ : List ℕ} {n m : ℕ} (s ts xs ws : List ℕ) → length ts ≡ n → length xs ≡ n → length ws ≡ m →
+    s₁ ≡ written s 0 (leBytes 2 n) → s₂ ≡ written s₁ 2 (leBytes 2 m) → s₃ ≡ written s₂ 4 (packed 4 ts) →
+    s₄ ≡ written s₃ (4 + 4 * n) (packed 8 xs) → s₅ ≡ written s₄ (4 + 12 * n) ws → s₅ ≡ written s 0 (imageOf n ts xs ws)
 unfolding imageOf
 parts {n} {m} s ts xs ws lt lx lw e₁ f₂ f₃ f₄ f₅ =
     let a = leBytes 2 n in
@@ -33,8 +35,11 @@ returns c =
     let p₃ = p₄ .before .before .before .before in
     let p₂ = p₃ .before .before .before .before in
     let p₁ = p₂ .before .before .before .before in
-    let h = p₁ .before .before .before .before .before .before .pre in
-    (refl, parts _ _ _ _ (length-take-le _ _ (h .0)) (length-take-le _ _ (h .1 .0)) (length-take-le _ _ (h .1 .1 .0)) (p₁ .write-u16 .ensures) (p₂ .write-u162 .ensures) (p₃ .write-tags .ensures) (p₄ .write-args .ensures) (p₅ .write-names .ensures))
+    let h = p₁ .before .before .before .before .before .before .pre in (
+      refl,
+      parts _ _ _ _ (length-take-le _ _ (h .0)) (length-take-le _ _ (h .1 .0)) (length-take-le _ _ (h .1 .1 .0))
+          (p₁ .write-u16 .ensures) (p₂ .write-u162 .ensures) (p₃ .write-tags .ensures) (p₄ .write-args .ensures) (p₅ .write-names .ensures),
+    )
 
 pub write-image-spec : {M : Type 1} → statement M
 write-image-spec =

@@ -33,8 +33,11 @@ loop-less : tie.Need-loop-less Inv-loop μ-loop
 loop-less c = omega (arith, the-back (c .before))
 
 loop-again : tie.Need-loop-again Inv-loop μ-loop
-loop-again c =
-    (omega arith, omega arith, left-on _ _ _ _ _ (cell-size _ _ _ (c .before .node-at .ensures)) (omega arith) (c .before .before .before .loop .inv .2) (omega arith))
+loop-again c = (
+  omega arith,
+  omega arith,
+  left-on _ _ _ _ _ (cell-size _ _ _ (c .before .node-at .ensures)) (omega arith) (c .before .before .before .loop .inv .2) (omega arith),
+)
 
 returns-2 : tie.Need-returns-2 Inv-loop μ-loop
 returns-2 c = left-done _ _ _ _ (omega arith) (c .before .loop .inv .2)

@@ -18,39 +18,45 @@ returns-2 : tie.Need-returns-2
 returns-2 c =
     let e = c .before .before .before .before in
     let d = e .before .before in
-    fits-unknown _ _ _ (d .node-at .ensures) (d .before .before .pre .0 .ready) (sym (e .before .is-leaf .ensures) ∙ e .if1 .left) (λ p. omega arith) (λ lo hi. omega arith)
+    fits-unknown _ _ _ (d .node-at .ensures) (d .before .before .pre .0 .ready)
+    (sym (e .before .is-leaf .ensures) ∙ e .if1 .left) (λ p. omega arith) (λ lo hi. omega arith)
 
 -- past the first tests the kind and the argument are a combinator's
-the-join : (c : tie.Joined4) → Joins (nodeOf (c .before .before .before .before .before .node-at .result))
+the-join : (c : tie.Joined4) →
+    let after-node-at = c .before .before .before .before .before in
+    Joins (nodeOf (after-node-at .node-at .result))
 the-join c =
     record { low = omega arith; high = omega arith; plain = ⊎-elim (λ v. omega arith) (λ v. omega arith) (c .if4 .came) }
 
 returns-3 : tie.Need-returns-3
 returns-3 c =
-    let d = c .before .before .before .before .before .before in
-    fits-bad-size _ _ _ (d .node-at .ensures) (d .before .before .pre .0 .ready) (the-join (c .before)) (omega arith)
+    let after-node-at = c .before .before .before .before .before .before in
+    fits-bad-size _ _ _ (after-node-at .node-at .ensures) (after-node-at .before .before .pre .0 .ready) (the-join (c .before)) (omega arith)
 
 returns-4 : tie.Need-returns-4
 returns-4 c =
-    let d = c .before .before .before .before .before .before .before in
-    fits-bad-size _ _ _ (d .node-at .ensures) (d .before .before .pre .0 .ready) (the-join (c .before .before)) (omega arith)
+    let after-node-at = c .before .before .before .before .before .before .before in
+    fits-bad-size _ _ _ (after-node-at .node-at .ensures) (after-node-at .before .before .pre .0 .ready) (the-join (c .before .before)) (omega arith)
 
 returns-5 : tie.Need-returns-5
 returns-5 c =
-    let d = c .before .before .before .before .before .before .before .before in
-    fits-join _ _ _ (d .node-at .ensures) (d .before .before .pre .0 .ready) (the-join (c .before .before .before)) (omega arith) (omega arith) _ (c .children-fit .ensures)
+    let after-node-at = c .before .before .before .before .before .before .before .before in
+    fits-join _ _ _ (after-node-at .node-at .ensures) (after-node-at .before .before .pre .0 .ready)
+    (the-join (c .before .before .before)) (omega arith) (omega arith) _ (c .children-fit .ensures)
 
 returns-6 : tie.Need-returns-6
 returns-6 c =
     let e = c .before in
     let d = e .before .before in
-    fits-unknown _ _ _ (d .node-at .ensures) (d .before .before .pre .0 .ready) (sym (e .before .is-leaf .ensures) ∙ e .if1 .left) (λ p. omega arith) (λ lo hi. omega arith)
+    fits-unknown _ _ _ (d .node-at .ensures) (d .before .before .pre .0 .ready)
+    (sym (e .before .is-leaf .ensures) ∙ e .if1 .left) (λ p. omega arith) (λ lo hi. omega arith)
 
 returns-7 : tie.Need-returns-7
 returns-7 c =
     let e = c .before .before in
     let d = e .before .before in
-    fits-unknown _ _ _ (d .node-at .ensures) (d .before .before .pre .0 .ready) (sym (e .before .is-leaf .ensures) ∙ e .if1 .left) (λ p. omega arith) (λ lo hi. omega arith)
+    fits-unknown _ _ _ (d .node-at .ensures) (d .before .before .pre .0 .ready)
+    (sym (e .before .is-leaf .ensures) ∙ e .if1 .left) (λ p. omega arith) (λ lo hi. omega arith)
 
 pub node-fits-spec : {M : Type 1} → statement M
 node-fits-spec =

@@ -15,8 +15,12 @@ use Rattle.judge.proofs.judge_in.Statement.{statement}
 use Rattle.judge.proofs.judge_in.Tie as tie
 
 -- what was written is an image within the buffer
-the-image : (c : tie.After-known-told) → (let n = c .before .size .given .0 .0 in let i = c .before .before .before .before .before .read-fitting .last .1 .0 in (n ≤ length i) × (isSome (decode (take n i)) ≡ true))
-the-image c = written-image _ _ (c .before .before .before .before .before .read-fitting .ensures) (c .before .size .given .1)
+the-image : (c : tie.After-known-told) →
+    (let n = c .before .size .given .0 .0 in let i = c .before .before .before .before .before .read-fitting .last .1 .0 in
+    (n ≤ length i) × (isSome (decode (take n i)) ≡ true))
+the-image c =
+    let after-read-fitting = c .before .before .before .before .before in
+    written-image _ _ (after-read-fitting .read-fitting .ensures) (c .before .size .given .1)
 
 slice-reshare-prefix-written : tie.Need-slice-reshare-prefix-written
 slice-reshare-prefix-written c = the-image c .0
@@ -32,11 +36,14 @@ check-rule-requires c κs = let i = the-image (c .before .before) .1 in (image-i
 
 returns : tie.Need-returns
 returns c =
+    let after-read-fitting = c .before .before .before .before .before .before .before .before in
     checks-image _ (the-image (c .before .before .before) .1) (c .before .node-count .ensures .0) _ (c .check-rule .ensures)
-    ∙ judges _ _ _ (c .before .before .before .before .before .before .before .before .read-fitting .ensures) (c .before .before .before .before .size .given .1)
+    ∙ judges _ _ _ (after-read-fitting .read-fitting .ensures) (c .before .before .before .before .size .given .1)
 
 returns-2 : tie.Need-returns-2
-returns-2 c = judges _ _ _ (c .before .before .before .before .before .read-fitting .ensures) (c .before .f .given .1)
+returns-2 c =
+    let after-read-fitting = c .before .before .before .before .before in
+    judges _ _ _ (after-read-fitting .read-fitting .ensures) (c .before .f .given .1)
 
 pub judge-in-spec : {M : Type 1} → statement M
 judge-in-spec =

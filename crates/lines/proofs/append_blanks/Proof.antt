@@ -23,8 +23,11 @@ loop-again : tie.Need-loop-again Inv-loop μ-loop
 loop-again c =
     let l = c .before .loop in
     let n = c .before .before .args .n in
-    let k = length-replicate {A = ℕ} n 32 in
-    (omega arith, search needs, rw (getD-replicate {A = ℕ} n (l .i) 32 0 (omega arith)) at (copied-on _ _ (omega arith) (replicate n 32) (l .i) (omega arith) (l .inv .2) (omega arith)))
+    let k = length-replicate {A = ℕ} n 32 in (
+      omega arith,
+      search needs,
+      rw (getD-replicate {A = ℕ} n (l .i) 32 0 (omega arith)) at (copied-on _ _ (omega arith) (replicate n 32) (l .i) (omega arith) (l .inv .2) (omega arith)),
+    )
 
 returns : tie.Need-returns Inv-loop μ-loop
 returns c =

@@ -11,7 +11,9 @@ use Rattle.lines.proofs.Laws.LinesLaws.{LineOf, line-of}
 use Rattle.lines.proofs.append_marked.Statement.{statement}
 use Rattle.lines.proofs.append_marked.Tie as tie
 
-the-line : (c : tie.After-mark-at) → LineOf (c .before .before .before .before .args .rule .now) (c .before .before .before .before .args .place) (c .before .end-of-last .result) (c .mark-at .result)
+the-line : (c : tie.After-mark-at) →
+    LineOf (c .before .before .before .before .args .rule .now) (c .before .before .before .before .args .place)
+    (c .before .end-of-last .result) (c .mark-at .result)
 the-line c = line-of (c .before .before .before .before .pre .0) (c .before .end-of-last .ensures) (c .mark-at .ensures)
 
 sub-append-shown : tie.Need-sub-append-shown
@@ -27,16 +29,24 @@ append-shown-requires : tie.Need-append-shown-requires
 append-shown-requires c κs = omega (arith, the-line (c .before .before))
 
 append-requires : tie.Need-append-requires
-append-requires c κs = omega (arith, the-line (c .before .before .before .before .before .before .before))
+append-requires c κs =
+    let after-mark-at = c .before .before .before .before .before .before .before in
+    omega (arith, the-line after-mark-at)
 
 sub-append-blanks : tie.Need-sub-append-blanks
-sub-append-blanks c = omega (arith, the-line (c .before .before .before .before .before .before .before .before .before .before .before))
+sub-append-blanks c =
+    let after-mark-at = c .before .before .before .before .before .before .before .before .before .before .before in
+    omega (arith, the-line after-mark-at)
 
 append-blanks-requires : tie.Need-append-blanks-requires
-append-blanks-requires c κs = omega (arith, the-line (c .before .before .before .before .before .before .before .before .before .before .before))
+append-blanks-requires c κs =
+    let after-mark-at = c .before .before .before .before .before .before .before .before .before .before .before in
+    omega (arith, the-line after-mark-at)
 
 append-requires-2 : tie.Need-append-requires-2
-append-requires-2 c κs = omega (arith, the-line (c .before .before .before .before .before .before .before .before .before .before .before .before .before .before .before .before), simp length-replicate at (c .before .before .before .before .append-blanks .ensures .ends))
+append-requires-2 c κs =
+    let after-mark-at = c .before .before .before .before .before .before .before .before .before .before .before .before .before .before .before .before in
+    omega (arith, the-line after-mark-at, simp length-replicate at (c .before .before .before .before .append-blanks .ensures .ends))
 
 returns : tie.Need-returns
 unfolding part markedLine
@@ -45,10 +55,13 @@ returns c =
     let e₃ = e₄ .before .before .before .before .before in
     let e₂ = e₃ .before .before .before .before in
     let e₁ = e₂ .before .before .before .before .before in
-    let m = e₁ .before .before .before in
-    let a = m .before .before .before .before .args in
+    let after-mark-at = e₁ .before .before .before in
+    let a = after-mark-at .before .before .before .before .args in
     let h : a .at ≤ length (a .text .now) = omega arith in
-    rw (← m .before .end-of-last .ensures, ← m .mark-at .ensures) (simp append-assoc at (written-at-after h (written-at-after h (written-at-after h (e₁ .append-shown .ensures) (e₂ .append .ensures)) (e₃ .append-blanks .ensures)) (e₄ .append2 .ensures)))
+    rw (← after-mark-at .before .end-of-last .ensures, ← after-mark-at .mark-at .ensures)
+    (simp append-assoc
+    at (written-at-after h
+    (written-at-after h (written-at-after h (e₁ .append-shown .ensures) (e₂ .append .ensures)) (e₃ .append-blanks .ensures)) (e₄ .append2 .ensures)))
 
 pub append-marked-spec : {M : Type 1} → statement M
 append-marked-spec =

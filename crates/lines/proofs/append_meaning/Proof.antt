@@ -24,13 +24,20 @@ append-trimmed-requires : tie.Need-append-trimmed-requires
 append-trimmed-requires c κs = omega (arith, row-fits (c .before .before .before .before))
 
 append-requires : tie.Need-append-requires
-append-requires c κs = omega (arith, row-fits (c .before .before .before .before .before .before .before .before .before))
+append-requires c κs =
+    let after-row-of = c .before .before .before .before .before .before .before .before .before in
+    omega (arith, row-fits after-row-of)
 
 append-trimmed-requires-2 : tie.Need-append-trimmed-requires-2
-append-trimmed-requires-2 c κs = omega (arith, row-fits (c .before .before .before .before .before .before .before .before .before .before .before .before .before .before))
+append-trimmed-requires-2 c κs =
+    let after-row-of = c .before .before .before .before .before .before .before .before .before .before .before .before .before .before in
+    omega (arith, row-fits after-row-of)
 
 append-requires-2 : tie.Need-append-requires-2
-append-requires-2 c κs = omega (arith, row-fits (c .before .before .before .before .before .before .before .before .before .before .before .before .before .before .before .before .before .before .before))
+append-requires-2 c κs =
+    let after-row-of = c .before .before .before .before .before .before .before .before .before .before .before .before .before
+    .before .before .before .before .before .before in
+    omega (arith, row-fits after-row-of)
 
 returns : tie.Need-returns
 returns c =
@@ -38,10 +45,13 @@ returns c =
     let e₃ = e₄ .before .before .before .before .before in
     let e₂ = e₃ .before .before .before .before .before in
     let e₁ = e₂ .before .before .before .before .before in
-    let r = e₁ .before .before .before .before .before in
-    let a = r .before .before .args in
+    let after-row-of = e₁ .before .before .before .before .before in
+    let a = after-row-of .before .before .args in
     let h : a .at ≤ length (a .text .now) = omega arith in
-    rw (← r .row-of .ensures) (simp append-assoc at (written-at-after h (written-at-after h (written-at-after h (e₁ .append-trimmed .ensures) (e₂ .append .ensures)) (e₃ .append-trimmed2 .ensures)) (e₄ .append2 .ensures)))
+    rw (← after-row-of .row-of .ensures)
+    (simp append-assoc
+    at (written-at-after h
+    (written-at-after h (written-at-after h (e₁ .append-trimmed .ensures) (e₂ .append .ensures)) (e₃ .append-trimmed2 .ensures)) (e₄ .append2 .ensures)))
 
 pub append-meaning-spec : {M : Type 1} → statement M
 append-meaning-spec =

@@ -10,14 +10,19 @@ use Rattle.lines.proofs.append_numbers.Statement.{statement}
 use Rattle.lines.proofs.append_numbers.Tie as tie
 
 append-requires-2 : tie.Need-append-requires-2
-append-requires-2 c κs = omega (arith, digits-short (c .before .before .before .before .before .before .before .before .before .before .before .before .args .a))
+append-requires-2 c κs =
+    let entry = c .before .before .before .before .before .before .before .before .before .before .before .before in
+    omega (arith, digits-short (entry .args .a))
 
 append-digits-requires-2 : tie.Need-append-digits-requires-2
-append-digits-requires-2 c κs = omega (arith, digits-short (c .before .before .before .before .before .before .before .before .before .before .before .before .before .before .before .before .args .a))
+append-digits-requires-2 c κs =
+    let entry = c .before .before .before .before .before .before .before .before .before .before .before .before .before .before .before .before in
+    omega (arith, digits-short (entry .args .a))
 
 append-requires-3 : tie.Need-append-requires-3
 append-requires-3 c κs =
-    let a = c .before .before .before .before .before .before .before .before .before .before .before .before .before .before .before .before .before .before .before .before .before .args in
+    let a = c .before .before .before .before .before .before .before .before .before .before .before .before .before .before
+    .before .before .before .before .before .before .before .args in
     omega (arith, digits-short (a .a), digits-short (a .b))
 
 returns : tie.Need-returns
@@ -29,7 +34,11 @@ returns c =
     let e₁ = e₂ .before .before .before .before in
     let a = e₁ .before .before .before .before .args in
     let h : a .at ≤ length (a .text .now) = omega arith in
-    simp append-assoc at (written-at-after h (written-at-after h (written-at-after h (written-at-after h (e₁ .append .ensures) (e₂ .append-digits .ensures)) (e₃ .append2 .ensures)) (e₄ .append-digits2 .ensures)) (e₅ .append3 .ensures))
+    simp append-assoc
+    at (written-at-after h
+    (written-at-after h
+    (written-at-after h (written-at-after h (e₁ .append .ensures) (e₂ .append-digits .ensures)) (e₃ .append2 .ensures)) (e₄ .append-digits2 .ensures))
+    (e₅ .append3 .ensures))
 
 pub append-numbers-spec : {M : Type 1} → statement M
 append-numbers-spec =

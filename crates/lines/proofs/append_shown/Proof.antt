@@ -24,8 +24,12 @@ loop-holds c = (omega arith, refl, written-none _ _)
 loop-again : tie.Need-loop-again Inv-loop μ-loop
 loop-again c =
     let l = c .before .before .before .loop in
-    let piece = c .before .before .before .before .before .before .args .piece .now in
-    (omega arith, search needs, rw (c .shown-byte .ensures, ← shown-at piece (l .i) (omega arith)) (copied-on _ _ (omega arith) _ (l .i) (omega (arith, shown-length piece)) (l .inv .2) (omega arith)))
+    let piece = c .before .before .before .before .before .before .args .piece .now in (
+      omega arith,
+      search needs,
+      rw (c .shown-byte .ensures, ← shown-at piece (l .i) (omega arith))
+          (copied-on _ _ (omega arith) _ (l .i) (omega (arith, shown-length piece)) (l .inv .2) (omega arith)),
+    )
 
 returns : tie.Need-returns Inv-loop μ-loop
 returns c =

@@ -13,13 +13,17 @@ slice-aggregate-append : tie.Need-slice-aggregate-append
 slice-aggregate-append c = rw (c .before .before .end-of-last .ensures) (sym (trimmed-length _ .0))
 
 append-requires : tie.Need-append-requires
-append-requires c κs = rw (c .before .before .end-of-last .ensures) (omega (arith, trimmed-length (c .before .before .before .before .before .args .piece .now)))
+append-requires c κs =
+    let entry = c .before .before .before .before .before in
+    rw (c .before .before .end-of-last .ensures) (omega (arith, trimmed-length (entry .args .piece .now)))
 
 same-length : tie.Need-same-length
 same-length c = search needs
 
 returns : tie.Need-returns
-returns c = rw (← c .before .before .before .before .before .end-of-last .ensures) (c .before .before .append .ensures)
+returns c =
+    let after-end-of-last = c .before .before .before .before .before in
+    rw (← after-end-of-last .end-of-last .ensures) (c .before .before .append .ensures)
 
 pub append-trimmed-spec : {M : Type 1} → statement M
 append-trimmed-spec =

@@ -17,7 +17,8 @@ module _ (s : List ℕ) (at : ℕ) (h : at ≤ length s) {s′ s″ : List ℕ} 
   bytes-then j k x e f = rw (bytes-join j k x) (written-then s at h (leBytes j x) (leBytes k (x / 256 ^ j)) (at + j) (rw length-leBytes) e f)
 
   -- a turn of a loop over a list that writes its numbers, each in k bytes
-  pub packed-on : (xs : List ℕ) (i : ℕ) → i < length xs → (k : ℕ) → s′ ≡ written s at (packed k (take i xs)) → s″ ≡ written s′ (at + k * i) (leBytes k (getD xs i 0)) → s″ ≡ written s at (packed k (take (i + 1) xs))
+  pub packed-on : (xs : List ℕ) (i : ℕ) → i < length xs → (k : ℕ) → s′ ≡ written s at (packed k (take i xs)) →
+      s″ ≡ written s′ (at + k * i) (leBytes k (getD xs i 0)) → s″ ≡ written s at (packed k (take (i + 1) xs))
   packed-on xs i l k e f =
       rw (add-one, take-suc xs i 0 l, packed-more)
       (written-then s at h (packed k (take i xs)) (leBytes k (getD xs i 0)) (at + k * i) (rw (length-packed, front-length s at h xs i l)) e f)

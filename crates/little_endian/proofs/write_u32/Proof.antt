@@ -19,9 +19,9 @@ same-length c = search needs
 
 returns : tie.Need-returns
 returns c =
-    let p = c .before .before .before .before .before .before in
-    let a = p .before .before .before .args in
-    bytes-then (a .s .now) (a .at) (omega arith) 2 2 (a .x) (p .write-u16 .ensures) (c .before .before .write-u162 .ensures)
+    let after-write-u16 = c .before .before .before .before .before .before in
+    let a = after-write-u16 .before .before .before .args in
+    bytes-then (a .s .now) (a .at) (omega arith) 2 2 (a .x) (after-write-u16 .write-u16 .ensures) (c .before .before .write-u162 .ensures)
 
 pub write-u32-spec : {M : Type 1} → statement M
 write-u32-spec = tie.close (tie.spec write-u16-requires add-write-u16 write-u16-requires-2 same-length returns)

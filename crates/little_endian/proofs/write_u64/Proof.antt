@@ -19,9 +19,9 @@ same-length c = search needs
 
 returns : tie.Need-returns
 returns c =
-    let p = c .before .before .before .before .before .before in
-    let a = p .before .before .before .args in
-    bytes-then (a .s .now) (a .at) (omega arith) 4 4 (a .x) (p .write-u32 .ensures) (c .before .before .write-u322 .ensures)
+    let after-write-u32 = c .before .before .before .before .before .before in
+    let a = after-write-u32 .before .before .before .args in
+    bytes-then (a .s .now) (a .at) (omega arith) 4 4 (a .x) (after-write-u32 .write-u32 .ensures) (c .before .before .write-u322 .ensures)
 
 pub write-u64-spec : {M : Type 1} → statement M
 write-u64-spec = tie.close (tie.spec write-u32-requires add-write-u32 write-u32-requires-2 same-length returns)

@@ -12,16 +12,25 @@ use Rattle.lookup.proofs.find_by.Statement.{statement}
 use Rattle.lookup.proofs.find_by.Tie as tie
 
 -- the slot's entry is one of the first, and begins where the index says
-below : (c : tie.Else1) → c .before .to-usize .result - 1 < c .before .before .before .before .before .args .first
+below : (c : tie.Else1) →
+    let entry = c .before .before .before .before .before in
+    c .before .to-usize .result - 1 < entry .args .first
 below c =
-    let n = c .before .before .before .before .before in
-    omega (arith, n .pre .1 .1 .1 .1 .kept (n .args .hash))
+    let entry = c .before .before .before .before .before in
+    omega (arith, entry .pre .1 .1 .1 .1 .kept (entry .args .hash))
 
-begins : (c : tie.Else1) → EntryWalk (c .before .before .before .before .before .args .s .now) (countIn (c .before .before .before .before .before .args .s .now)) (c .before .to-usize .result - 1) (getD (c .before .before .before .before .before .args .starts .now) (c .before .to-usize .result - 1) 0)
-begins c = c .before .before .before .before .before .pre .1 .1 .1 .1 .begins _ (below c)
+begins : (c : tie.Else1) →
+    let entry = c .before .before .before .before .before in
+    EntryWalk (entry .args .s .now) (countIn (entry .args .s .now)) (c .before .to-usize .result - 1)
+    (getD (entry .args .starts .now) (c .before .to-usize .result - 1) 0)
+begins c =
+    let entry = c .before .before .before .before .before in
+    entry .pre .1 .1 .1 .1 .begins _ (below c)
 
 -- its name lies within the bytes
-inside : (c : tie.After-length-at) → getD (c .before .before .before .before .before .before .before .before .args .starts .now) (c .before .before .before .before .to-usize .result - 1) 0 + c .length-at .result ≤ length (c .before .before .before .before .before .before .before .before .args .s .now)
+inside : (c : tie.After-length-at) →
+    let entry = c .before .before .before .before .before .before .before .before in
+    getD (entry .args .starts .now) (c .before .before .before .before .to-usize .result - 1) 0 + c .length-at .result ≤ length (entry .args .s .now)
 inside c =
     let b = c .before .before .before in
     omega (arith, standing-within (begins b) (omega (arith, below b)) (c .length-at .ensures .0))
@@ -40,7 +49,8 @@ cast-at c = omega (arith, begins (c .before) .fills)
 length-at-requires : tie.Need-length-at-requires
 length-at-requires c κs =
     let b = c .before .before in
-    (b .before .before .before .before .before .pre .1 .1 .0, (c .count-of .ensures .0, omega (arith, below b, c .count-of .ensures .0)))
+    let entry = b .before .before .before .before .before in
+    (entry .pre .1 .1 .0, (c .count-of .ensures .0, omega (arith, below b, c .count-of .ensures .0)))
 
 add-same-name : tie.Need-add-same-name
 add-same-name c = omega (arith, inside c)

@@ -22,7 +22,8 @@ abbrev μ-loop : tie.MeasureT-loop
 
 loop-holds : tie.Need-loop-holds Inv-loop μ-loop
 unfolding has allNames
-loop-holds c = (rw (c .names-start .ensures) (standing-start _ _ (c .before .before .before .before .pre .0) (c .before .count-of .ensures .0)), omega arith, refl)
+loop-holds c =
+    (rw (c .names-start .ensures) (standing-start _ _ (c .before .before .before .before .pre .0) (c .before .count-of .ensures .0)), omega arith, refl)
 
 length-at-requires : tie.Need-length-at-requires Inv-loop μ-loop
 length-at-requires c κs = let l = c .before .loop in (l .inv .0 .laid, (l .inv .0 .counted, omega arith))
@@ -56,8 +57,9 @@ loop-again c =
 
 returns-2 : tie.Need-returns-2 Inv-loop μ-loop
 returns-2 c =
+    let entry = c .before .before .before .before .before .before in
     let l = c .before .loop in
-    let e : l .k ≡ c .before .before .before .before .before .before .args .first = omega arith in
+    let e : l .k ≡ entry .args .first = omega arith in
     finds-none (rw e at (l .inv .2))
 
 pub position-spec : {M : Type 1} → statement M

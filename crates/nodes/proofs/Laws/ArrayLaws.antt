@@ -66,7 +66,8 @@ module _ {b a : Arrays} {n m n₁ m₁ : ℕ} {T A N : List ℕ} (h : Holds b a 
     more-names = omega (arith, h .more-names, g .more-names, length-append N N′);
   }
 
-  pub holds-push : {c : Arrays} (x y : ℕ) → n₁ < length (a .tags) → n₁ < length (a .args) → c .tags ≡ set (a .tags) n₁ x → c .args ≡ set (a .args) n₁ y → c .names ≡ a .names → Holds b c n m (n₁ + 1) m₁ (T ++ x ∷ []) (A ++ y ∷ []) N
+  pub holds-push : {c : Arrays} (x y : ℕ) → n₁ < length (a .tags) → n₁ < length (a .args) → c .tags ≡ set (a .tags) n₁ x →
+      c .args ≡ set (a .args) n₁ y → c .names ≡ a .names → Holds b c n m (n₁ + 1) m₁ (T ++ x ∷ []) (A ++ y ∷ []) N
   holds-push {c} x y lt la p q r = record {
     tags = snoc (a .tags) (b .tags) (c .tags) T n n₁ x (h .tags) lt p;
     args = snoc (a .args) (b .args) (c .args) A n n₁ y (h .args) la q;
@@ -77,14 +78,16 @@ module _ {b a : Arrays} {n m n₁ m₁ : ℕ} {T A N : List ℕ} (h : Holds b a 
   }
 
   -- what was there before is still there
-  pub front : n ≤ length (b .tags) → n ≤ length (b .args) → m ≤ length (b .names) → (take n (a .tags) ≡ take n (b .tags)) × (take n (a .args) ≡ take n (b .args)) × (take m (a .names) ≡ take m (b .names))
+  pub front : n ≤ length (b .tags) → n ≤ length (b .args) → m ≤ length (b .names) →
+      (take n (a .tags) ≡ take n (b .tags)) × (take n (a .args) ≡ take n (b .args)) × (take m (a .names) ≡ take m (b .names))
   front lt la ln = (
     cut (a .tags) (b .tags) T n n₁ (h .tags) (h .more-tags) lt,
     cut (a .args) (b .args) A n n₁ (h .args) (h .more-args) la,
     cut (a .names) (b .names) N m m₁ (h .names) (h .more-names) ln,
   )
 
-  pub rebased : {b′ : Arrays} → (take n (b .tags) ≡ take n (b′ .tags)) × (take n (b .args) ≡ take n (b′ .args)) × (take m (b .names) ≡ take m (b′ .names)) → Holds b′ a n m n₁ m₁ T A N
+  pub rebased : {b′ : Arrays} →
+      (take n (b .tags) ≡ take n (b′ .tags)) × (take n (b .args) ≡ take n (b′ .args)) × (take m (b .names) ≡ take m (b′ .names)) → Holds b′ a n m n₁ m₁ T A N
   rebased q = record {
     tags = h .tags ∙ ap (λ (l : List ℕ). l ++ T) (q .0);
     args = h .args ∙ ap (λ (l : List ℕ). l ++ A) (q .1);
@@ -105,11 +108,13 @@ holds-none {b} {n} {m} = record {
 }
 
 -- after a call the arrays are as long as before
-pub still : {cap : ℕ} {b a : Arrays} → Long cap b → length (a .tags) ≡ length (b .tags) → length (a .args) ≡ length (b .args) → length (a .names) ≡ length (b .names) → Long cap a
+pub still : {cap : ℕ} {b a : Arrays} → Long cap b → length (a .tags) ≡ length (b .tags) → length (a .args) ≡ length (b .args) →
+    length (a .names) ≡ length (b .names) → Long cap a
 still l p q r = record { tags = p ∙ l .tags; args = q ∙ l .args; names = r ∙ l .names }
 
 -- and as long as each other
-pub long-after : {b a : Arrays} → Long (length (b .tags)) b → length (a .tags) ≡ length (b .tags) → length (a .args) ≡ length (b .args) → length (a .names) ≡ length (b .names) → Long (length (a .tags)) a
+pub long-after : {b a : Arrays} → Long (length (b .tags)) b → length (a .tags) ≡ length (b .tags) →
+    length (a .args) ≡ length (b .args) → length (a .names) ≡ length (b .names) → Long (length (a .tags)) a
 long-after l p q r = record { tags = refl; args = q ∙ l .args ∙ sym p; names = r ∙ l .names ∙ sym p }
 
 -- ---- a name after others, byte by byte

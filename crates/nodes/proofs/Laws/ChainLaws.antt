@@ -77,7 +77,8 @@ module _ {b a : Arrays} {n m n₁ m₁ : ℕ} (lt : n ≤ length (b .tags)) (la 
       let h₂ = holds-as h (tags-root l) refl refl in
       ap tagKind (last-is (a .tags) (b .tags) (bodyTags l) n n₁ (rootTag l) (h₂ .tags) (h₂ .more-tags) lt) ∙ root-kind l
 
-  popped : (j : Join) (rs : Rules) (r : Rule) → Holds b a n m n₁ m₁ (tags (node j rs r)) (args (node j rs r) m) (names (node j rs r)) → HoldsAll b a n m (n₁ - 1) m₁ (more rs r)
+  popped : (j : Join) (rs : Rules) (r : Rule) →
+      Holds b a n m n₁ m₁ (tags (node j rs r)) (args (node j rs r) m) (names (node j rs r)) → HoldsAll b a n m (n₁ - 1) m₁ (more rs r)
   unfolding tags args names
   popped j rs r h = record {
     tags = unsnoc (a .tags) (b .tags) (tagsAll rs ++ tags r) n n₁ (tag (joinKind j) (suc (sizes rs + size r))) (h .tags) (h .more-tags) lt;
@@ -88,7 +89,8 @@ module _ {b a : Arrays} {n m n₁ m₁ : ℕ} (lt : n ≤ length (b .tags)) (la 
     more-names = h .more-names;
   }
 
-  kept-as : {j : Join} {l : Rule} → Left j l → Holds b a n m n₁ m₁ (tags l) (args l m) (names l) → {k : ℕ} → k ≡ keepIf (eqb (tagKind (getD (a .tags) (n₁ - 1) 0)) (joinKind j)) n₁ → HoldsAll b a n m k m₁ (leftRules j l)
+  kept-as : {j : Join} {l : Rule} → Left j l → Holds b a n m n₁ m₁ (tags l) (args l m) (names l) → {k : ℕ} →
+      k ≡ keepIf (eqb (tagKind (getD (a .tags) (n₁ - 1) 0)) (joinKind j)) n₁ → HoldsAll b a n m k m₁ (leftRules j l)
   unfolding tags args names
   kept-as {j} (own rs r e) h {k} q =
       let same : eqb (tagKind (getD (a .tags) (n₁ - 1) 0)) (joinKind j) ≡ true = eq-eqb _ _ (last-kind (node j rs r) h) in

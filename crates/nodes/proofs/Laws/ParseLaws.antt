@@ -31,7 +31,8 @@ module _ {G : ℕ → ParseResult} {need : ℕ} {s : List ℕ} {at n m : ℕ} {b
         let qe : e ≡ e′ = cc in
         let qn : n₁ ≡ n′ = cc in
         let qm : m₁ ≡ m′ = cc in
-        subst (λ (i : ℕ). ParsedRule G need s at n m b a e′ n′ i) qm (subst (λ (i : ℕ). ParsedRule G need s at n m b a e′ i m₁) qn (subst (λ (i : ℕ). ParsedRule G need s at n m b a i n₁ m₁) qe read));
+        subst (λ (i : ℕ). ParsedRule G need s at n m b a e′ n′ i) qm
+        (subst (λ (i : ℕ). ParsedRule G need s at n m b a e′ i m₁) qn (subst (λ (i : ℕ). ParsedRule G need s at n m b a i n₁ m₁) qe read));
     refused = λ x q. let z : _≡_ {A = ℕ} 0 1 = cc in absurd (omega arith);
   }
 
@@ -45,7 +46,9 @@ module _ {G : ℕ → ParseResult} {need : ℕ} {s : List ℕ} {at n m : ℕ} {b
   }
 
   -- the same from other arrays that begin the same way
-  pub rebase : {b′ : Arrays} {e n₁ m₁ : ℕ} → (take n (b′ .tags) ≡ take n (b .tags)) × (take n (b′ .args) ≡ take n (b .args)) × (take m (b′ .names) ≡ take m (b .names)) → ParsedRule G need s at n m b′ a e n₁ m₁ → ParsedRule G need s at n m b a e n₁ m₁
+  pub rebase : {b′ : Arrays} {e n₁ m₁ : ℕ} →
+      (take n (b′ .tags) ≡ take n (b .tags)) × (take n (b′ .args) ≡ take n (b .args)) × (take m (b′ .names) ≡ take m (b .names)) →
+      ParsedRule G need s at n m b′ a e n₁ m₁ → ParsedRule G need s at n m b a e n₁ m₁
   rebase q r = record {
     tree = r .tree;
     says = r .says;
@@ -59,15 +62,18 @@ module _ {G : ℕ → ParseResult} {need : ℕ} {s : List ℕ} {at n m : ℕ} {b
   }
 
 -- ---- a level of the grammar, `or` or `and`: G reads at `at`, Op reads an operand, More continues after what was read
-pub record Level (s : List ℕ) (G : ℕ → ParseResult) (More : ℕ → ParseResult → ParseResult) (Op : ℕ → ℕ → ParseResult) (sign : ℕ) (j : Join) (at : ℕ) : Type 0 where
+pub record Level (s : List ℕ) (G : ℕ → ParseResult) (More : ℕ → ParseResult → ParseResult) (Op : ℕ → ℕ → ParseResult) (sign : ℕ)
+    (j : Join) (at : ℕ) : Type 0 where
   pub chains : Chains j
   pub starts : (f : ℕ) → G (suc f) ≡ More f (Op f at)
   pub fails : (f : ℕ) (x : Refusal) → More (suc f) (bad x) ≡ bad x
   pub stops : (f : ℕ) (t : Rule) (e : ℕ) → after sign (tokensFrom s e) ≡ missing → More (suc f) (got t (tokensFrom s e)) ≡ got t (tokensFrom s e)
-  pub turns : (f : ℕ) (t : Rule) (e y : ℕ) → after sign (tokensFrom s e) ≡ rest (tokensFrom s y) → More (suc f) (got t (tokensFrom s e)) ≡ More f (onto j t (Op f y))
+  pub turns : (f : ℕ) (t : Rule) (e y : ℕ) → after sign (tokensFrom s e) ≡ rest (tokensFrom s y) →
+      More (suc f) (got t (tokensFrom s e)) ≡ More f (onto j t (Op f y))
 
 -- what a loop has read so far
-pub record Sofar (G : ℕ → ParseResult) (More : ℕ → ParseResult → ParseResult) (need : ℕ) (s : List ℕ) (at n m : ℕ) (cap : ℕ) (b a : Arrays) (e n₁ m₁ : ℕ) : Type 0 where
+pub record Sofar (G : ℕ → ParseResult) (More : ℕ → ParseResult → ParseResult) (need : ℕ) (s : List ℕ) (at n m : ℕ) (cap : ℕ)
+    (b a : Arrays) (e n₁ m₁ : ℕ) : Type 0 where
   pub tree : Rule
   pub says : (f : ℕ) → need ≤ f → (g : ℕ) × (3 * left s e + 1 ≤ g) × (G f ≡ More g (got tree (tokensFrom s e)))
   pub on : at < e
@@ -79,9 +85,11 @@ pub record Sofar (G : ℕ → ParseResult) (More : ℕ → ParseResult → Parse
   pub holds : Holds b a n m n₁ m₁ (tags tree) (args tree m) (names tree)
   pub long : Long cap a
 
-module _ {s : List ℕ} {G : ℕ → ParseResult} {More : ℕ → ParseResult → ParseResult} {Op : ℕ → ℕ → ParseResult} {sign : ℕ} {j : Join} {at : ℕ} (L : Level s G More Op sign j at) where
+module _ {s : List ℕ} {G : ℕ → ParseResult} {More : ℕ → ParseResult → ParseResult} {Op : ℕ → ℕ → ParseResult} {sign : ℕ}
+    {j : Join} {at : ℕ} (L : Level s G More Op sign j at) where
   -- the first operand was refused
-  pub first-refused : {need need′ : ℕ} {x : Refusal} → (1 ≤ need) × (need + 1 ≤ need′) → ((f : ℕ) → need ≤ f → Op f at ≡ bad x) → (f : ℕ) → need′ ≤ f → G f ≡ bad x
+  pub first-refused : {need need′ : ℕ} {x : Refusal} → (1 ≤ need) × (need + 1 ≤ need′) → ((f : ℕ) → need ≤ f → Op f at ≡ bad x) →
+      (f : ℕ) → need′ ≤ f → G f ≡ bad x
   first-refused {need} {need′} {x} pos not f h = go f h
     where
       go : (f : ℕ) → need′ ≤ f → G f ≡ bad x
@@ -90,7 +98,9 @@ module _ {s : List ℕ} {G : ℕ → ParseResult} {More : ℕ → ParseResult �
       go (suc (suc f)) h = L .starts (suc f) ∙ ap (More (suc f)) (not (suc f) (omega arith)) ∙ L .fails f x
 
   -- the first operand was read
-  pub begin : {need need′ n m : ℕ} {b a : Arrays} {e n₁ m₁ : ℕ} → (n ≤ length (b .tags)) × (m ≤ length (b .tags)) → Long (length (b .tags)) b → Long (length (a .tags)) a → (3 * left s at + 1 ≤ need) × (need + 1 ≤ need′) → ParsedRule (λ (f : ℕ). Op f at) need s at n m b a e n₁ m₁ → Sofar G More need′ s at n m (length (a .tags)) a a e n₁ m₁
+  pub begin : {need need′ n m : ℕ} {b a : Arrays} {e n₁ m₁ : ℕ} → (n ≤ length (b .tags)) × (m ≤ length (b .tags)) →
+      Long (length (b .tags)) b → Long (length (a .tags)) a → (3 * left s at + 1 ≤ need) × (need + 1 ≤ need′) →
+      ParsedRule (λ (f : ℕ). Op f at) need s at n m b a e n₁ m₁ → Sofar G More need′ s at n m (length (a .tags)) a a e n₁ m₁
   begin {need} {need′} {n} {m} {b} {a} {e} {n₁} {m₁} fits lb la enough r = record {
     tree = r .tree;
     says = go;
@@ -109,7 +119,8 @@ module _ {s : List ℕ} {G : ℕ → ParseResult} {More : ℕ → ParseResult �
       go (suc g) h = (g, omega (arith, r .fewer), L .starts g ∙ ap (More g) (r .says g (omega arith)))
 
   -- no sign follows
-  pub stop : {need n m cap : ℕ} {b a : Arrays} {e n₁ m₁ : ℕ} → after sign (tokensFrom s e) ≡ missing → Sofar G More need s at n m cap b a e n₁ m₁ → ParsedRule G need s at n m b a e n₁ m₁
+  pub stop : {need n m cap : ℕ} {b a : Arrays} {e n₁ m₁ : ℕ} → after sign (tokensFrom s e) ≡ missing →
+      Sofar G More need s at n m cap b a e n₁ m₁ → ParsedRule G need s at n m b a e n₁ m₁
   stop {need} {n} {m} {cap} {b} {a} {e} not l = record {
     tree = l .tree;
     says = λ f h. (l .says f h .2) ∙ done (l .says f h .0) (l .says f h .1);
@@ -129,13 +140,15 @@ module _ {s : List ℕ} {G : ℕ → ParseResult} {More : ℕ → ParseResult �
   -- a sign follows, and the text continues at y
   module _ {e y : ℕ} (is : after sign (tokensFrom s e) ≡ rest (tokensFrom s y)) (fewer : left s y < left s e) where
     -- the operand after it was refused
-    pub right-refused : {need need₂ n m cap : ℕ} {b a : Arrays} {n₁ m₁ : ℕ} {x : Refusal} → Sofar G More need s at n m cap b a e n₁ m₁ → need₂ ≤ 3 * left s y + 2 → ((f : ℕ) → need₂ ≤ f → Op f y ≡ bad x) → (f : ℕ) → need ≤ f → G f ≡ bad x
+    pub right-refused : {need need₂ n m cap : ℕ} {b a : Arrays} {n₁ m₁ : ℕ} {x : Refusal} →
+        Sofar G More need s at n m cap b a e n₁ m₁ → need₂ ≤ 3 * left s y + 2 → ((f : ℕ) → need₂ ≤ f → Op f y ≡ bad x) → (f : ℕ) → need ≤ f → G f ≡ bad x
     right-refused {need₂ = need₂} {x = x} l enough not f h = (l .says f h .2) ∙ done (l .says f h .0) (l .says f h .1)
       where
         done : (g : ℕ) → 3 * left s e + 1 ≤ g → More g (got (l .tree) (tokensFrom s e)) ≡ bad x
         done zero h = absurd (omega arith)
         done (suc zero) h = absurd (omega arith)
-        done (suc (suc g)) h = L .turns (suc g) (l .tree) e y is ∙ ap (λ (o : ParseResult). More (suc g) (onto j (l .tree) o)) (not (suc g) (omega arith)) ∙ L .fails g x
+        done (suc (suc g)) h =
+            L .turns (suc g) (l .tree) e y is ∙ ap (λ (o : ParseResult). More (suc g) (onto j (l .tree) o)) (not (suc g) (omega arith)) ∙ L .fails g x
 
     -- the operand after it was read
     pub turn : {need need₂ n m cap : ℕ} {b a a₂ a₃ : Arrays} {n₁ m₁ k e₂ n₂ m₂ : ℕ} → e < y → n ≤ cap → Long cap b → Sofar G More need s at n m cap b a e n₁ m₁
@@ -153,7 +166,8 @@ module _ {s : List ℕ} {G : ℕ → ParseResult} {More : ℕ → ParseResult �
       some = omega (arith, l .some, r .some, keeps);
       room = omega (arith, l .room, r .room, keeps);
       width = omega (arith, l .width, r .width);
-      holds = chained (L .chains) (l .tree) (r .tree) (l .holds) (omega (arith, lb)) (omega (arith, lb)) (keeps .0) (r .holds) (omega (arith, la)) (omega (arith, la)) p p₃;
+      holds = chained (L .chains) (l .tree) (r .tree) (l .holds) (omega (arith, lb)) (omega (arith, lb)) (keeps .0) (r .holds)
+          (omega (arith, la)) (omega (arith, la)) p p₃;
       long = record {
         tags = ap length (p .tags) ∙ length-set (a₂ .tags) n₂ (tag (joinKind j) (n₂ - n + 1)) ∙ la .tags;
         args = ap length (p .args) ∙ length-set (a₂ .args) n₂ (joinArg j) ∙ la .args;
@@ -161,12 +175,16 @@ module _ {s : List ℕ} {G : ℕ → ParseResult} {More : ℕ → ParseResult �
       };
     }
       where
-        says₂ : (g : ℕ) → 3 * left s e + 1 ≤ g → (g₂ : ℕ) × (3 * left s e₂ + 1 ≤ g₂) × (More g (got (l .tree) (tokensFrom s e)) ≡ More g₂ (got (chain j (l .tree) (r .tree)) (tokensFrom s e₂)))
+        says₂ : (g : ℕ) → 3 * left s e + 1 ≤ g →
+            (g₂ : ℕ) × (3 * left s e₂ + 1 ≤ g₂) × (More g (got (l .tree) (tokensFrom s e)) ≡ More g₂ (got (chain j (l .tree) (r .tree)) (tokensFrom s e₂)))
         says₂ zero h = absurd (omega arith)
-        says₂ (suc g) h = (g, omega (arith, r .fewer), L .turns g (l .tree) e y is ∙ ap (λ (o : ParseResult). More g (onto j (l .tree) o)) (r .says g (omega arith)))
+        says₂ (suc g) h =
+            (g, omega (arith, r .fewer), L .turns g (l .tree) e y is ∙ ap (λ (o : ParseResult). More g (onto j (l .tree) o)) (r .says g (omega arith)))
 
 -- ---- the levels
-pub and-level : (s : List ℕ) (d at : ℕ) → Level s (λ (f : ℕ). andIn f s d (tokensFrom s at)) (λ (f : ℕ) (g : ParseResult). andMore f s d g) (λ (f e : ℕ). primaryIn f s d (tokensFrom s e)) ampersand all at
+pub and-level : (s : List ℕ) (d at : ℕ) →
+    Level s (λ (f : ℕ). andIn f s d (tokensFrom s at)) (λ (f : ℕ) (g : ParseResult). andMore f s d g)
+    (λ (f e : ℕ). primaryIn f s d (tokensFrom s e)) ampersand all at
 unfolding andIn
 and-level s d at = record {
   chains = by-all;
@@ -176,7 +194,8 @@ and-level s d at = record {
   turns = λ f t e y q. rw q;
 }
 
-pub or-level : (s : List ℕ) (d at : ℕ) → Level s (λ (f : ℕ). orIn f s d (tokensFrom s at)) (λ (f : ℕ) (g : ParseResult). orMore f s d g) (λ (f e : ℕ). andIn f s d (tokensFrom s e)) bar any at
+pub or-level : (s : List ℕ) (d at : ℕ) →
+    Level s (λ (f : ℕ). orIn f s d (tokensFrom s at)) (λ (f : ℕ) (g : ParseResult). orMore f s d g) (λ (f e : ℕ). andIn f s d (tokensFrom s e)) bar any at
 unfolding orIn
 or-level s d at = record {
   chains = by-any;
@@ -228,14 +247,16 @@ module _ (s : List ℕ) (d at : ℕ) where
     pub inner-refused : {x : Refusal} → ((f : ℕ) → 3 * left s e₀ + 3 ≤ f → orIn f s (d + 1) (tokensFrom s e₀) ≡ bad x) → Says (bad x)
     inner-refused {x} inner = grouped (bad x) inner
 
-    module _ {n m : ℕ} {b a : Arrays} {e n₁ m₁ : ℕ} (r : ParsedRule (λ (f : ℕ). orIn f s (d + 1) (tokensFrom s e₀)) (3 * left s e₀ + 3) s e₀ n m b a e n₁ m₁) where
+    module _ {n m : ℕ} {b a : Arrays} {e n₁ m₁ : ℕ}
+        (r : ParsedRule (λ (f : ℕ). orIn f s (d + 1) (tokensFrom s e₀)) (3 * left s e₀ + 3) s e₀ n m b a e n₁ m₁) where
       pub unclosed : {p : ℕ} → after closeBracket (tokensFrom s e) ≡ missing → firstPlace (tokensFrom s e) ≡ p → Says (bad (refusal bracketExpected p))
       unclosed not pl f le =
           grouped (got (r .tree) (tokensFrom s e)) (r .says) f le
           ∙ ap (λ (x : Rest). onRest x (λ us. got (r .tree) us) (bad (refusal bracketExpected (firstPlace (tokensFrom s e))))) not
           ∙ ap (λ (x : ℕ). bad (refusal bracketExpected x)) pl
 
-      pub closed : {y : ℕ} → after closeBracket (tokensFrom s e) ≡ rest (tokensFrom s y) → (e < y) × (y ≤ length s) × (left s y < left s e) → ParsedRule (λ (f : ℕ). primaryIn f s d (tokensFrom s at)) (3 * left s at + 1) s at n m b a y n₁ m₁
+      pub closed : {y : ℕ} → after closeBracket (tokensFrom s e) ≡ rest (tokensFrom s y) →
+          (e < y) × (y ≤ length s) × (left s y < left s e) → ParsedRule (λ (f : ℕ). primaryIn f s d (tokensFrom s at)) (3 * left s at + 1) s at n m b a y n₁ m₁
       closed shut lt = record {
         tree = r .tree;
         says = λ f le.
@@ -254,7 +275,8 @@ module _ (s : List ℕ) (d at : ℕ) where
 -- what the loop over a list has read, before it reads at e
 pub record Listing (s : List ℕ) (d at : ℕ) (j : Join) (n m cap : ℕ) (b a : Arrays) (e n₁ m₁ : ℕ) : Type 0 where
   pub rules : Rules
-  pub says : (f : ℕ) → 3 * left s at + 1 ≤ f → (g : ℕ) × (3 * left s e + 3 ≤ g) × (primaryIn f s d (tokensFrom s at) ≡ listMore g s d j rules (orIn g s (d + 1) (tokensFrom s e)))
+  pub says : (f : ℕ) → 3 * left s at + 1 ≤ f →
+      (g : ℕ) × (3 * left s e + 3 ≤ g) × (primaryIn f s d (tokensFrom s at) ≡ listMore g s d j rules (orIn g s (d + 1) (tokensFrom s e)))
   pub on : at < e
   pub within : e ≤ length s
   pub fewer : left s e < left s at
@@ -265,7 +287,8 @@ pub record Listing (s : List ℕ) (d at : ℕ) (j : Join) (n m cap : ℕ) (b a :
   pub long : Long cap a
 
 module _ (s : List ℕ) (d at : ℕ) (j : Join) where
-  module _ {place e : ℕ} (q : primaryStart s d (tokensFrom s at) ≡ aList j place (tokensFrom s e)) (h : (at < e) × (e ≤ length s) × (left s e < left s at)) where
+  module _ {place e : ℕ} (q : primaryStart s d (tokensFrom s at) ≡ aList j place (tokensFrom s e))
+      (h : (at < e) × (e ≤ length s) × (left s e < left s at)) where
     pub list-empty : {us : List Token} → after closeBracket (tokensFrom s e) ≡ rest us → Says s d at (bad (refusal emptyList place))
     unfolding primaryIn
     list-empty shut zero le = absurd (omega arith)
@@ -286,7 +309,8 @@ module _ (s : List ℕ) (d at : ℕ) (j : Join) where
       long = lb;
     }
       where
-        go : (f : ℕ) → 3 * left s at + 1 ≤ f → (g : ℕ) × (3 * left s e + 3 ≤ g) × (primaryIn f s d (tokensFrom s at) ≡ listMore g s d j nil (orIn g s (d + 1) (tokensFrom s e)))
+        go : (f : ℕ) → 3 * left s at + 1 ≤ f →
+            (g : ℕ) × (3 * left s e + 3 ≤ g) × (primaryIn f s d (tokensFrom s at) ≡ listMore g s d j nil (orIn g s (d + 1) (tokensFrom s e)))
         go zero le = absurd (omega arith)
         go (suc g) le = (g, omega arith, rw (q, not))
 
@@ -301,10 +325,13 @@ module _ (s : List ℕ) (d at : ℕ) (j : Join) where
 
     -- an item was read, up to e₂
     module _ {a₂ : Arrays} {e₂ n₂ m₂ : ℕ} (r : ParsedRule (λ (f : ℕ). orIn f s (d + 1) (tokensFrom s e)) (3 * left s e + 3) s e n₁ m₁ a a₂ e₂ n₂ m₂) where
-      after-item : (f : ℕ) → 3 * left s at + 1 ≤ f → (g : ℕ) × (3 * left s e + 2 ≤ g) × (primaryIn f s d (tokensFrom s at) ≡ listMore (suc g) s d j (l .rules) (got (r .tree) (tokensFrom s e₂)))
+      after-item : (f : ℕ) → 3 * left s at + 1 ≤ f →
+          (g : ℕ) × (3 * left s e + 2 ≤ g) × (primaryIn f s d (tokensFrom s at) ≡ listMore (suc g) s d j (l .rules) (got (r .tree) (tokensFrom s e₂)))
       after-item f le = let v = go (l .says f le .0) (l .says f le .1) in (v .0, v .1, l .says f le .2 ∙ v .2)
         where
-          go : (g : ℕ) → 3 * left s e + 3 ≤ g → (g₂ : ℕ) × (3 * left s e + 2 ≤ g₂) × (listMore g s d j (l .rules) (orIn g s (d + 1) (tokensFrom s e)) ≡ listMore (suc g₂) s d j (l .rules) (got (r .tree) (tokensFrom s e₂)))
+          go : (g : ℕ) → 3 * left s e + 3 ≤ g →
+              (g₂ : ℕ) × (3 * left s e + 2 ≤ g₂)
+              × (listMore g s d j (l .rules) (orIn g s (d + 1) (tokensFrom s e)) ≡ listMore (suc g₂) s d j (l .rules) (got (r .tree) (tokensFrom s e₂)))
           go zero h = absurd (omega arith)
           go (suc g) h = (g, omega arith, ap (listMore (suc g) s d j (l .rules)) (r .says (suc g) h))
 
@@ -313,11 +340,13 @@ module _ (s : List ℕ) (d at : ℕ) (j : Join) where
       joined = holds-as (holds-join (l .holds) (r .holds)) refl (ap (λ (x : ℕ). argsAll (l .rules) m ++ args (r .tree) x) (l .holds .more-names)) refl
 
       -- neither a comma nor a bracket follows
-      pub list-unclosed : {p : ℕ} → after comma (tokensFrom s e₂) ≡ missing → after closeBracket (tokensFrom s e₂) ≡ missing → firstPlace (tokensFrom s e₂) ≡ p → Says s d at (bad (refusal bracketExpected p))
+      pub list-unclosed : {p : ℕ} → after comma (tokensFrom s e₂) ≡ missing → after closeBracket (tokensFrom s e₂) ≡ missing →
+          firstPlace (tokensFrom s e₂) ≡ p → Says s d at (bad (refusal bracketExpected p))
       unfolding listMore
       list-unclosed c o pl f le = let v = after-item f le in v .2 ∙ rw (c, o, pl)
 
-      pub list-turn : {y : ℕ} → after comma (tokensFrom s e₂) ≡ rest (tokensFrom s y) → (e₂ < y) × (y ≤ length s) × (left s y < left s e₂) → Long cap a₂ → Listing s d at j n m cap b a₂ y n₂ m₂
+      pub list-turn : {y : ℕ} → after comma (tokensFrom s e₂) ≡ rest (tokensFrom s y) →
+          (e₂ < y) × (y ≤ length s) × (left s y < left s e₂) → Long cap a₂ → Listing s d at j n m cap b a₂ y n₂ m₂
       unfolding listMore
       list-turn c lt la = record {
         rules = more (l .rules) (r .tree);
@@ -332,14 +361,16 @@ module _ (s : List ℕ) (d at : ℕ) (j : Join) where
         long = la;
       }
 
-      pub list-stop : {a₃ : Arrays} {y : ℕ} → after comma (tokensFrom s e₂) ≡ missing → after closeBracket (tokensFrom s e₂) ≡ rest (tokensFrom s y) → (e₂ < y) × (y ≤ length s) × (left s y < left s e₂) → Long cap a₂ → n₂ < cap
+      pub list-stop : {a₃ : Arrays} {y : ℕ} → after comma (tokensFrom s e₂) ≡ missing →
+          after closeBracket (tokensFrom s e₂) ≡ rest (tokensFrom s y) → (e₂ < y) × (y ≤ length s) × (left s y < left s e₂) → Long cap a₂ → n₂ < cap
           → Joined j n n₂ (a₂ .tags) (a₂ .args) (a₃ .tags) (a₃ .args) → a₃ .names ≡ a₂ .names
           → ParsedRule (λ (f : ℕ). primaryIn f s d (tokensFrom s at)) (3 * left s at + 1) s at n m b a₃ y (n₂ + 1) m₂
       unfolding listMore tags args names
       list-stop c o w la lt p p₃ =
           let rs : Rules = l .rules in
           let t : Rule = r .tree in
-          let sz : n₂ - n + 1 ≡ suc (sizes rs + size t) = omega (arith, joined .more-tags, length-append (tagsAll rs) (tags t), length-tagsAll rs, length-tags t) in
+          let sz : n₂ - n + 1 ≡ suc (sizes rs + size t) =
+          omega (arith, joined .more-tags, length-append (tagsAll rs) (tags t), length-tagsAll rs, length-tags t) in
           record {
             tree = node j rs t;
             says = λ f le. let v = after-item f le in v .2 ∙ rw (c, o);
@@ -349,5 +380,7 @@ module _ (s : List ℕ) (d at : ℕ) (j : Join) where
             some = omega (arith, l .some, r .some);
             room = omega (arith, l .room, r .room);
             width = omega (arith, l .width, r .width);
-            holds = holds-as (holds-push joined (tag (joinKind j) (n₂ - n + 1)) (joinArg j) (omega (arith, la)) (omega (arith, la)) (p .tags) (p .args) p₃) (ap (λ (x : ℕ). (tagsAll rs ++ tags t) ++ tag (joinKind j) x ∷ []) sz) refl refl;
+            holds = holds-as
+                (holds-push joined (tag (joinKind j) (n₂ - n + 1)) (joinArg j) (omega (arith, la)) (omega (arith, la)) (p .tags) (p .args) p₃)
+                (ap (λ (x : ℕ). (tagsAll rs ++ tags t) ++ tag (joinKind j) x ∷ []) sz) refl refl;
           }

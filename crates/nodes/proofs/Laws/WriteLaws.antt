@@ -61,7 +61,8 @@ module _ {next n m k x : ℕ} {t a t₁ a₁ : List ℕ} {r : ParseEnd} (lt : n 
       (ap (λ (i : ℕ). take i w) none ∙ sym (append-nil (take m w)) ∙ ap (λ (u : List ℕ). take m w ++ u) (sym z))
       (e ∙ ap (Done next (n + 1)) (sym none))
 
-  pub test-written : (u : Test) → k ≡ leafKind (leafOf u) → x ≡ leafArg (leafOf u) 0 → (w : List ℕ) → Written (leafOf u) next n m (arrays t a w) (arrays t₁ a₁ w) r
+  pub test-written : (u : Test) → k ≡ leafKind (leafOf u) → x ≡ leafArg (leafOf u) 0 → (w : List ℕ) →
+      Written (leafOf u) next n m (arrays t a w) (arrays t₁ a₁ w) r
   test-written (OlderThan i) qk qx = nameless (olderThan i) refl qk qx
   test-written (Readable i) qk qx = nameless (readable i) refl qk qx
 

@@ -19,7 +19,8 @@ returns c =
     let pushed = c .before .before .before .before in
     let arg = pushed .before in
     let entry = arg .before .before .before .before .before .before in
-    test-written (entry .pre .0) (entry .pre .1) (pushed .push .ensures .0) (pushed .push .ensures .1) refl (entry .args .test) (arg .before .test-kind .ensures) (arg .test-arg .ensures)
+    test-written (entry .pre .0) (entry .pre .1) (pushed .push .ensures .0) (pushed .push .ensures .1) refl (entry .args .test)
+    (arg .before .test-kind .ensures) (arg .test-arg .ensures)
 
 pub push-test-spec : {M : Type 1} → statement M
 push-test-spec =

@@ -11,7 +11,8 @@ use Rattle.nodes.proofs.write_name.Statement.{statement}
 use Rattle.nodes.proofs.write_name.Tie as tie
 
 abbrev Inv-loop : tie.InvT-loop
-Inv-loop text start end names₀ m i₀ j₀ names i j = (start ≤ i) × (i ≤ end) × (j ≡ m + (i - start)) × (length names ≡ length names₀) × (take j names ≡ take m names₀ ++ part text start i)
+Inv-loop text start end names₀ m i₀ j₀ names i j =
+    (start ≤ i) × (i ≤ end) × (j ≡ m + (i - start)) × (length names ≡ length names₀) × (take j names ≡ take m names₀ ++ part text start i)
 
 abbrev μ-loop : tie.MeasureT-loop
 μ-loop text start end names₀ m i₀ j₀ names i j = end - i
@@ -42,7 +43,8 @@ loop-again c =
       omega arith,
       omega arith,
       length-set (l .names) (l .j) _ ∙ l .inv .3,
-      name-more (s .args .text .now) (s .args .names .now) (l .names) (s .args .start) (s .args .m) (l .i) (l .j) (omega arith) (omega arith) (omega arith) (l .inv .4),
+      name-more (s .args .text .now) (s .args .names .now) (l .names) (s .args .start) (s .args .m) (l .i) (l .j) (omega arith)
+          (omega arith) (omega arith) (l .inv .4),
     )
 
 same-length : tie.Need-same-length Inv-loop μ-loop
@@ -54,7 +56,8 @@ returns c =
     let l = c .before .loop in
     let q : l .i ≡ s .args .end = omega arith in
     let k : l .j ≡ s .args .m + (s .args .end - s .args .start) = omega arith in
-    ap (λ (x : ℕ). take x (l .names)) (sym k) ∙ l .inv .4 ∙ ap (λ (x : ℕ). take (s .args .m) (s .args .names .now) ++ part (s .args .text .now) (s .args .start) x) q
+    ap (λ (x : ℕ). take x (l .names)) (sym k) ∙ l .inv .4
+    ∙ ap (λ (x : ℕ). take (s .args .m) (s .args .names .now) ++ part (s .args .text .now) (s .args .start) x) q
 
 pub write-name-spec : {M : Type 1} → statement M
 write-name-spec = tie.close (tie.spec Inv-loop μ-loop loop-holds shared-slice-read-names slice-write-names add-i add-j loop-less loop-again same-length returns)

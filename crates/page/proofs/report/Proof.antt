@@ -16,12 +16,15 @@ returns c = rw (← page-short _ _ _ (c .if1 .taken)) (written-at-none _ 0)
 returns-2 : tie.Need-returns-2
 returns-2 c =
     let a = c .before .before in
-    let n = a .before .before .before .before in
-    let s = n .before .before .before .before .before .args in
-    rw (← page-many (s .text .now) (s .args .now) (s .page .now) (omega (arith, n .before .if1 .left)) (omega (arith, n .count-args .ensures, a .before .before .before .if2 .taken))) (a .append .ensures)
+    let after-count-args = a .before .before .before .before in
+    let s = after-count-args .before .before .before .before .before .args in
+    rw (← page-many (s .text .now) (s .args .now) (s .page .now) (omega (arith, after-count-args .before .if1 .left))
+    (omega (arith, after-count-args .count-args .ensures, a .before .before .before .if2 .taken))) (a .append .ensures)
 
 -- the table that the arguments make
-the-table : (c : tie.After-known-told) → Given (c .before .before .before .before .before .before .before .before .before .before .before .before .args .args .now) (c .before .before .before .before .table-of .last .1 .0) (c .before .size .given .0 .0)
+the-table : (c : tie.After-known-told) →
+    let entry = c .before .before .before .before .before .before .before .before .before .before .before .before in
+    Given (entry .args .args .now) (c .before .before .before .before .table-of .last .1 .0) (c .before .size .given .0 .0)
 the-table c =
     let t = c .before .before .before .before in
     given (omega (arith, t .before .before .before .count-args .ensures, t .before .before .if2 .left)) (t .table-of .ensures) (c .before .size .given .1)
@@ -34,28 +37,33 @@ slice-aggregate-stores c = sym (length-take-le _ _ (the-table (c .before) .withi
 
 append-judged-requires : tie.Need-append-judged-requires
 append-judged-requires c κs =
+    let else1 = c .before .before .before .before .before .before .before .before .before .before .before in
     let g = the-table (c .before .before .before) in
-    record { laid = g .laid; small = g .small; room = omega (arith, c .before .before .before .before .before .before .before .before .before .before .before .if1 .left); due = λ f e. judged-bounds _ _ f (sym (c .judge .ensures .0) ∙ e) }
+    record { laid = g .laid; small = g .small; room = omega (arith, else1 .if1 .left); due = λ f e. judged-bounds _ _ f (sym (c .judge .ensures .0) ∙ e) }
 
 returns-3 : tie.Need-returns-3
 returns-3 c =
     let j = c .before .before .before in
     let k = j .before .before .before in
-    let n = k .before .before .before .before .before .before .before in
-    let s = n .before .before .before .before .before .args in
+    let else2 = k .before .before .before .before .before .before in
+    let after-count-args = else2 .before in
+    let s = after-count-args .before .before .before .before .before .args in
     rw
-    (← page-judged (s .text .now) (s .args .now) (s .page .now) (omega (arith, n .before .if1 .left)) (omega (arith, n .count-args .ensures, k .before .before .before .before .before .before .if2 .left)) (the-table k) (j .judge .ensures .0))
+    (← page-judged (s .text .now) (s .args .now) (s .page .now) (omega (arith, after-count-args .before .if1 .left))
+    (omega (arith, after-count-args .count-args .ensures, else2 .if2 .left)) (the-table k) (j .judge .ensures .0))
     (c .before .before .append-judged .ensures)
 
 returns-4 : tie.Need-returns-4
 returns-4 c =
     let a = c .before .before in
-    let i = a .before .before .before in
-    let t = i .before .before .before in
-    let n = t .before .before .before in
-    let s = n .before .before .before .before .before .args in
+    let after-index = a .before .before .before in
+    let after-table-of = after-index .before .before .before in
+    let after-count-args = after-table-of .before .before .before in
+    let s = after-count-args .before .before .before .before .before .args in
     rw
-    (← page-wrong (s .text .now) (s .args .now) (s .page .now) (omega (arith, n .before .if1 .left)) (omega (arith, n .count-args .ensures, t .before .before .if2 .left)) (t .table-of .ensures .bad _ _ (i .index .given .1)))
+    (← page-wrong (s .text .now) (s .args .now) (s .page .now) (omega (arith, after-count-args .before .if1 .left))
+    (omega (arith, after-count-args .count-args .ensures, after-table-of .before .before .if2 .left))
+    (after-table-of .table-of .ensures .bad _ _ (after-index .index .given .1)))
     (a .append-argument .ensures)
 
 pub report-spec : {M : Type 1} → statement M

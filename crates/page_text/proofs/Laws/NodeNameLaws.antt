@@ -88,7 +88,14 @@ module _ (f : ℕ → Cell) where
     names-cells (leaf (olderThan d)) s st = rw (one-cell f s, st .0)
     names-cells (leaf (readable k)) s st = rw (one-cell f s, st .0)
     names-cells (node j rs r) s st =
-        rw (last-cell f s (sizes rs + size r), ← add-assoc, st .2, cells-more f s (sizes rs) (size r), ← names-cells-all rs s (st .0), ← names-cells r (s + sizes rs) (st .1))
+        rw (
+          last-cell f s (sizes rs + size r),
+          ← add-assoc,
+          st .2,
+          cells-more f s (sizes rs) (size r),
+          ← names-cells-all rs s (st .0),
+          ← names-cells r (s + sizes rs) (st .1),
+        )
 
     names-cells-all : (rs : Rules) (s : ℕ) → EncodedAllAt rs f s → nodeNamesAll rs ≡ cellNames f s (sizes rs)
     names-cells-all nil s st = rw (no-cells f s)

@@ -69,6 +69,7 @@ module _ (text args page : List ℕ) where
       unfolding reportOf
       page-wrong e = rw (le-ltb (length page) 32_768 room, le-ltb 64 (length (argumentsIn args)) few, e)
 
-      pub page-judged : {buffer : List ℕ} {n : ℕ} {v : Verdict} → (g : Given args buffer n) → v ≡ judgeOf text (take n buffer) → verdictText text (entriesIn (take n buffer)) v ≡ pageOf text args page
+      pub page-judged : {buffer : List ℕ} {n : ℕ} {v : Verdict} → (g : Given args buffer n) → v ≡ judgeOf text (take n buffer) →
+          verdictText text (entriesIn (take n buffer)) v ≡ pageOf text args page
       unfolding reportOf judgedText
       page-judged g e = rw (le-ltb (length page) 32_768 room, le-ltb 64 (length (argumentsIn args)) few, g .are, e, g .back, g .bytes)

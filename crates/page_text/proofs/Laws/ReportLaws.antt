@@ -29,7 +29,8 @@ outside lo hi b n = go (decLt b lo)
     go (no l) = is-above lo hi b (omega (arith, n (omega arith)))
 
 -- of any other number there is no more to say
-pub detail-none : (text : List ℕ) (es : List Entry) (f : Refusal) → (3 ≤ f .number → f .number ≤ 15 → ⊥) → (f .number ≡ 18 → ⊥) → (f .number ≡ 20 → ⊥) → (f .number ≡ 21 → ⊥) → (f .number ≡ 22 → ⊥) → detail text es f ≡ []
+pub detail-none : (text : List ℕ) (es : List Entry) (f : Refusal) → (3 ≤ f .number → f .number ≤ 15 → ⊥) → (f .number ≡ 18 → ⊥) →
+    (f .number ≡ 20 → ⊥) → (f .number ≡ 21 → ⊥) → (f .number ≡ 22 → ⊥) → detail text es f ≡ []
 unfolding detail
 detail-none text es f o a b c d =
     let n = f .number in
@@ -73,7 +74,8 @@ module _ {s a b : List ℕ} {at count k start end : ℕ} (h : Named s a b at cou
 
     -- that is write-only
     module _ (y : mode ≡ writeOnly) where
-      rest-yes : h .done ++ (confirmedLine (entryAt s k start len .name) ++ confirmedLines (writeOnlyNames (drop (k + 1) (entriesIn s)))) ≡ confirmedLines (writeOnlyNames (entriesIn s))
+      rest-yes : h .done ++ (confirmedLine (entryAt s k start len .name) ++ confirmedLines (writeOnlyNames (drop (k + 1) (entriesIn s))))
+          ≡ confirmedLines (writeOnlyNames (entriesIn s))
       unfolding writeOnlyNames confirmedLines
       rest-yes = rw (standing-here (h .stands) lt e, ← the-mode, y) at (h .rest)
 
@@ -81,7 +83,8 @@ module _ {s a b : List ℕ} {at count k start end : ℕ} (h : Named s a b at cou
       named-room =
           omega (arith, simp (length-append, shown-length) at (ap length rest-yes), lines-short s (h .stands .laid), named-length)
 
-      pub named-yes : {c : List ℕ} {now : ℕ} → WrittenAt b c end now (confirmedLine (entryAt s k start len .name)) → Named s a c at count (k + 1) (start + len) now
+      pub named-yes : {c : List ℕ} {now : ℕ} → WrittenAt b c end now (confirmedLine (entryAt s k start len .name)) →
+          Named s a c at count (k + 1) (start + len) now
       named-yes {c} {now} p =
           record {
             stands = standing-next (h .stands) lt e;

@@ -50,7 +50,8 @@ unfolding rowOf all-fit
 meaning-short n =
     let r = rowOf n in
     let h = and-eq-true-iff (leb (length (r .word)) 18) (leb (length (r .meaning)) 64) .0 (fits-at (row 0 "" "" ∷ table) n (row n "" "") refl refl) in
-    simp length-append (omega (arith, trimmed-length (r .word), trimmed-length (r .meaning), leb-true (length (r .word)) 18 (h .0), leb-true (length (r .meaning)) 64 (h .1)))
+    simp length-append
+    (omega (arith, trimmed-length (r .word), trimmed-length (r .meaning), leb-true (length (r .word)) 18 (h .0), leb-true (length (r .meaning)) 64 (h .1)))
 
 -- ---- a node's name, which lies in an image
 meant-short : (s : List ℕ) (n k a : ℕ) → length (nameIn (meaning s n k a)) ≤ length s
@@ -82,7 +83,8 @@ lines-from [] ls bs = omega arith
 lines-from (m ∷ ms) [] bs = omega arith
 lines-from (m ∷ ms) (l ∷ ls) bs = go (eqb m writeOnly) (writeOnlyNames (entriesFrom ms ls (drop l bs))) (lines-from ms ls (drop l bs))
   where
-    go : (b : Bool) (ns : List (List ℕ)) → length (confirmedLines ns) ≤ 12 * length ms + sum ls → length (confirmedLines (cond b (take l bs ∷ ns) ns)) ≤ 12 * suc (length ms) + (l + sum ls)
+    go : (b : Bool) (ns : List (List ℕ)) → length (confirmedLines ns) ≤ 12 * length ms + sum ls →
+        length (confirmedLines (cond b (take l bs ∷ ns) ns)) ≤ 12 * suc (length ms) + (l + sum ls)
     go true ns h = simp (length-append, shown-length, length-take) (omega arith)
     go false ns h = omega arith
 

@@ -11,13 +11,20 @@ use Rattle.page_text.proofs.append_argument.Statement.{statement}
 use Rattle.page_text.proofs.append_argument.Tie as tie
 
 append-requires-2 : tie.Need-append-requires-2
-append-requires-2 c κs = omega (arith, digits-short (c .before .before .before .before .before .before .before .before .before .before .before .before .args .index))
+append-requires-2 c κs =
+    let entry = c .before .before .before .before .before .before .before .before .before .before .before .before in
+    omega (arith, digits-short (entry .args .index))
 
 append-fault-requires : tie.Need-append-fault-requires
-append-fault-requires c κs = omega (arith, digits-short (c .before .before .before .before .before .before .before .before .before .before .before .before .before .before .before .before .args .index))
+append-fault-requires c κs =
+    let entry = c .before .before .before .before .before .before .before .before .before .before .before .before .before .before .before .before in
+    omega (arith, digits-short (entry .args .index))
 
 append-requires-3 : tie.Need-append-requires-3
-append-requires-3 c κs = let a = c .before .before .before .before .before .before .before .before .before .before .before .before .before .before .before .before .before .before .before .before .before .args in omega (arith, digits-short (a .index), fault-short (a .fault))
+append-requires-3 c κs =
+    let a = c .before .before .before .before .before .before .before .before .before .before .before .before .before .before
+    .before .before .before .before .before .before .before .args in
+    omega (arith, digits-short (a .index), fault-short (a .fault))
 
 returns : tie.Need-returns
 returns c =
@@ -27,7 +34,11 @@ returns c =
     let e₂ = e₃ .before .before .before .before .before in
     let e₁ = e₂ .before .before .before .before in
     let h : 0 ≤ length (e₁ .before .before .before .before .args .page .now) = omega arith in
-    simp append-assoc at (written-at-after h (written-at-after h (written-at-after h (written-at-after h (e₁ .append .ensures) (e₂ .append-digits .ensures)) (e₃ .append2 .ensures)) (e₄ .append-fault .ensures)) (e₅ .append3 .ensures))
+    simp append-assoc
+    at (written-at-after h
+    (written-at-after h
+    (written-at-after h (written-at-after h (e₁ .append .ensures) (e₂ .append-digits .ensures)) (e₃ .append2 .ensures)) (e₄ .append-fault .ensures))
+    (e₅ .append3 .ensures))
 
 pub append-argument-spec : {M : Type 1} → statement M
 append-argument-spec =

@@ -10,7 +10,9 @@ use Rattle.page_text.proofs.append_confirmed.Statement.{statement}
 use Rattle.page_text.proofs.append_confirmed.Tie as tie
 
 append-requires-2 : tie.Need-append-requires-2
-append-requires-2 c κs = omega (arith, shown-length (c .before .before .before .before .before .before .before .before .before .before .before .before .before .args .name .now))
+append-requires-2 c κs =
+    let entry = c .before .before .before .before .before .before .before .before .before .before .before .before .before in
+    omega (arith, shown-length (entry .args .name .now))
 
 returns : tie.Need-returns
 returns c =

@@ -12,14 +12,16 @@ returns c =
     let a = c .before .before in
     let n = a .before .before .before .before in
     let s = n .before .before .before in
-    rw (← pass-none (entriesIn (s .args .stores .now)) (omega (arith, length-entries (s .args .stores .now) (s .pre .0), n .count-of .ensures))) (a .append .ensures)
+    rw (← pass-none (entriesIn (s .args .stores .now)) (omega (arith, length-entries (s .args .stores .now) (s .pre .0), n .count-of .ensures)))
+    (a .append .ensures)
 
 returns-2 : tie.Need-returns-2
 returns-2 c =
     let a = c .before .before in
     let n = a .before .before .before .before in
     let s = n .before .before .before in
-    rw (← pass-some (entriesIn (s .args .stores .now)) (omega (arith, length-entries (s .args .stores .now) (s .pre .0), n .count-of .ensures))) (a .append2 .ensures)
+    rw (← pass-some (entriesIn (s .args .stores .now)) (omega (arith, length-entries (s .args .stores .now) (s .pre .0), n .count-of .ensures)))
+    (a .append2 .ensures)
 
 pub append-pass-spec : {M : Type 1} → statement M
 append-pass-spec =

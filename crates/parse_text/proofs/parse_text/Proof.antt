@@ -10,24 +10,34 @@ use Rattle.parse_text.proofs.parse_text.Statement.{statement}
 use Rattle.parse_text.proofs.parse_text.Tie as tie
 
 -- past 3, the scan decides
-scanned : (c : tie.Else1) {x : Scanned} → (let s = c .before .before .before .before .before .before .args .text .now in scanOf (tokensFrom s 0) ≡ x → readOf s ≡ scannedOf x s)
-scanned c = read-scanned _ (omega (arith, c .before .before .before .before .before .before .pre)) (c .before .foreign-at .ensures) (c .if1 .left)
+scanned : (c : tie.Else1) {x : Scanned} →
+    (let s = c .before .before .before .before .before .before .args .text .now in scanOf (tokensFrom s 0) ≡ x → readOf s ≡ scannedOf x s)
+scanned c =
+    let entry = c .before .before .before .before .before .before in
+    read-scanned _ (omega (arith, entry .pre)) (c .before .foreign-at .ensures) (c .if1 .left)
 
 returns : tie.Need-returns
 returns c =
-    let e = c .before .before .before .before .before .before .before in
-    answered-refused (c .refuse .ensures) (read-foreign _ (omega (arith, e .pre)) (c .before .before .foreign-at .ensures) (c .before .if1 .taken))
+    let entry = c .before .before .before .before .before .before .before in
+    answered-refused (c .refuse .ensures) (read-foreign _ (omega (arith, entry .pre)) (c .before .before .foreign-at .ensures) (c .before .if1 .taken))
 
 returns-2 : tie.Need-returns-2
 returns-2 c =
-    let w = c .before .before .before .before .before .before .before .before .parse-whole .ensures in
-    finished-ended (scanned (c .before .before .before .before .before .before .before .before .before .before .before .before) (w .done _ _ _ (c .enum-told .given .1) .0)) w
+    let after-parse-whole = c .before .before .before .before .before .before .before .before in
+    let else1 = after-parse-whole .before .before .before .before in
+    let w = after-parse-whole .parse-whole .ensures in
+    finished-ended (scanned else1 (w .done _ _ _ (c .enum-told .given .1) .0)) w
 
 returns-3 : tie.Need-returns-3
-returns-3 c = answered-refused refl (scanned (c .before .before .before .before .before .before .before .before .before .before .before .before .before .before .before .before) (sym (c .before .before .before .scan .ensures) ∙ c .before .f .given .1))
+returns-3 c =
+    let else1 = c .before .before .before .before .before .before .before .before .before .before .before .before .before .before .before .before in
+    answered-refused refl (scanned else1 (sym (c .before .before .before .scan .ensures) ∙ c .before .f .given .1))
 
 returns-4 : tie.Need-returns-4
-returns-4 c = finished-ended (scanned (c .before .before .before .before .before .before .before .before .before .before .before .before .before .before .before) (sym (c .before .before .scan .ensures) ∙ c .enum-told3 .given .1)) (c .before .before .before .before .before .before .before .before .before .before .before .parse-whole .ensures)
+returns-4 c =
+    let after-parse-whole = c .before .before .before .before .before .before .before .before .before .before .before in
+    let else1 = after-parse-whole .before .before .before .before in
+    finished-ended (scanned else1 (sym (c .before .before .scan .ensures) ∙ c .enum-told3 .given .1)) (after-parse-whole .parse-whole .ensures)
 
 pub parse-text-spec : {M : Type 1} → statement M
 parse-text-spec =

@@ -13,15 +13,19 @@ returns c =
 
 returns-2 : tie.Need-returns-2
 returns-2 c =
-    let p = c .before .before .before .before .before .before .before .before .before .before .before .before .before .parse-or .ensures in
+    let after-whole = c .before .before .before .before .before in
+    let p = after-whole .before .before .before .before .before .before .before .before .parse-or .ensures in
     let t = c .before .before .before .token-from in
     answered-refused (c .refuse .ensures)
-    (parse-trailing _ (p .done _ _ _ (c .before .before .before .before .before .whole .given .1)) (sym (t .ensures)) (not-kind (others 0) 0 tt (t .result) (c .before .before .match2 .keys2)) (c .before .place-of .ensures))
+    (parse-trailing _ (p .done _ _ _ (after-whole .whole .given .1)) (sym (t .ensures))
+    (not-kind (others 0) 0 tt (t .result) (c .before .before .match2 .keys2)) (c .before .place-of .ensures))
 
 returns-3 : tie.Need-returns-3
 returns-3 c =
     let p = c .before .before .before .before .before .before .before .before .before .before .before .before .parse-or .ensures in
-    answered-done (parse-whole _ (p .done _ _ _ (c .before .before .before .before .whole .given .1)) (sym (c .before .before .token-from .ensures) ∙ c .enum-told2 .given .1))
+    answered-done
+    (parse-whole _ (p .done _ _ _ (c .before .before .before .before .whole .given .1))
+    (sym (c .before .before .token-from .ensures) ∙ c .enum-told2 .given .1))
 
 pub parse-whole-spec : {M : Type 1} → statement M
 parse-whole-spec =

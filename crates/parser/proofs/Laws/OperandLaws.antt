@@ -63,7 +63,8 @@ module _ (s : List ℕ) (e sign : ℕ) (tags : List ℕ) (n kind : ℕ) {r : Ope
   follows : 0 < n → {y k : ℕ} → r ≡ At y k → Follows s e sign tags n kind y k
   follows pos {y} {k} h = go (nextOfClass sign (tokenAt s e)) refl (sym h ∙ q)
     where
-      go : (v : Next) → v ≡ nextOfClass sign (tokenAt s e) → At y k ≡ operandBy v (keepIf (eqb (tagKind (getD tags (n - 1) 0)) kind) n) → Follows s e sign tags n kind y k
+      go : (v : Next) → v ≡ nextOfClass sign (tokenAt s e) →
+          At y k ≡ operandBy v (keepIf (eqb (tagKind (getD tags (n - 1) 0)) kind) n) → Follows s e sign tags n kind y k
       go (To z) p g =
           let same : z ≡ y = cc in
           let keep : k ≡ keepIf (eqb (tagKind (getD tags (n - 1) 0)) kind) n = cc in
@@ -76,17 +77,21 @@ module _ (s : List ℕ) (e sign : ℕ) (tags : List ℕ) (n kind : ℕ) {r : Ope
   follows-not : openBracket ≤ sign → sign ≤ bar → r ≡ None → after sign (tokensFrom s e) ≡ missing
   follows-not lo hi h = go (nextOfClass sign (tokenAt s e)) refl (sym h ∙ q)
     where
-      go : (v : Next) → v ≡ nextOfClass sign (tokenAt s e) → None ≡ operandBy v (keepIf (eqb (tagKind (getD tags (n - 1) 0)) kind) n) → after sign (tokensFrom s e) ≡ missing
+      go : (v : Next) → v ≡ nextOfClass sign (tokenAt s e) →
+          None ≡ operandBy v (keepIf (eqb (tagKind (getD tags (n - 1) 0)) kind) n) → after sign (tokensFrom s e) ≡ missing
       go (To z) p g = let z : _≡_ {A = ℕ} 0 1 = cc in absurd (omega arith)
       go Off p g = test-off s e sign p lo hi refl
 
 -- ---- the loop
 -- what it keeps: room as before the first call, and what was read so far
-pub record Chaining (G : ℕ → ParseResult) (More : ℕ → ParseResult → ParseResult) (need : ℕ) (class s : List ℕ) (at d n m : ℕ) (b a : Arrays) (e n₁ m₁ : ℕ) : Type 0 where
+pub record Chaining (G : ℕ → ParseResult) (More : ℕ → ParseResult → ParseResult) (need : ℕ) (class s : List ℕ) (at d n m : ℕ)
+    (b a : Arrays) (e n₁ m₁ : ℕ) : Type 0 where
   pub before : Before class s at d n m b
   pub sofar : Sofar G More need s at n m (length (b .tags)) b a e n₁ m₁
 
-module _ {class s : List ℕ} {G : ℕ → ParseResult} {More : ℕ → ParseResult → ParseResult} {Op : ℕ → ℕ → ParseResult} {sign : ℕ} {j : Join} {at d n m need need′ : ℕ} {b : Arrays} (L : Level s G More Op sign j at) (p : Before class s at d n m b) (enough : (3 * left s at + 1 ≤ need) × (need + 1 ≤ need′)) where
+module _ {class s : List ℕ} {G : ℕ → ParseResult} {More : ℕ → ParseResult → ParseResult} {Op : ℕ → ℕ → ParseResult} {sign : ℕ}
+    {j : Join} {at d n m need need′ : ℕ} {b : Arrays} (L : Level s G More Op sign j at) (p : Before class s at d n m b)
+    (enough : (3 * left s at + 1 ≤ need) × (need + 1 ≤ need′)) where
   -- after the first operand
   module _ {b₁ : Arrays} {r : ParseEnd} (q : ParseAnswer (λ (f : ℕ). Op f at) need s at n m b b₁ r) where
     pub chain-refused : {x : _} → r ≡ Refused x → ParseAnswer G need′ s at n m b b₁ r
@@ -99,17 +104,27 @@ module _ {class s : List ℕ} {G : ℕ → ParseResult} {More : ℕ → ParseRes
         sofar = begin L (omega (arith, p)) (p .long) (before-after p same .long) enough (q .done _ _ _ h);
       }
 
-      pub chain-stop : {a : Arrays} {e₂ n₂ m₂ : ℕ} {v : ParseEnd} → Chaining G More need′ class s at d n m b₁ a e₂ n₂ m₂ → (openBracket ≤ sign) × (sign ≤ bar) → {u : Operand} → u ≡ nextOperand s e₂ sign (a .tags) n₂ (joinKind j) → u ≡ None → v ≡ Done e₂ n₂ m₂ → ParseAnswer G need′ s at n m b a v
+      pub chain-stop : {a : Arrays} {e₂ n₂ m₂ : ℕ} {v : ParseEnd} → Chaining G More need′ class s at d n m b₁ a e₂ n₂ m₂ →
+          (openBracket ≤ sign) × (sign ≤ bar) → {u : Operand} → u ≡ nextOperand s e₂ sign (a .tags) n₂ (joinKind j) → u ≡ None →
+          v ≡ Done e₂ n₂ m₂ → ParseAnswer G need′ s at n m b a v
       chain-stop {a} {e₂} {n₂} c lies o none is =
           let fits : (n ≤ length (b .tags)) × (n ≤ length (b .args)) × (m ≤ length (b .names)) = omega (arith, p) in
-          gave-done is (rebase (front (q .done _ _ _ h .holds) (fits .0) (fits .1) (fits .2)) (stop L (follows-not s e₂ sign (a .tags) n₂ (joinKind j) o (lies .0) (lies .1) none) (c .sofar)))
+          gave-done is
+          (rebase (front (q .done _ _ _ h .holds) (fits .0) (fits .1) (fits .2))
+          (stop L (follows-not s e₂ sign (a .tags) n₂ (joinKind j) o (lies .0) (lies .1) none) (c .sofar)))
 
 -- a turn: what its calls ask, and what it gives
-module _ {class s : List ℕ} {G : ℕ → ParseResult} {More : ℕ → ParseResult → ParseResult} {at d n m need : ℕ} {b a : Arrays} {e n₁ m₁ : ℕ} (c : Chaining G More need class s at d n m b a e n₁ m₁) where
-  pub operand-asks : {sign : ℕ} → (ampersand ≤ sign) × (sign ≤ bar) → IsClassTable class × ((ampersand ≤ sign) × ((sign ≤ bar) × ((0 < n₁) × (n₁ ≤ length (a .tags)))))
-  operand-asks h = let p = c .before in let l = c .sofar in (p .table, (h .0, (h .1, (omega (arith, l .some), omega (arith, p .roomy, l .room, l .within, l .long .tags)))))
+module _ {class s : List ℕ} {G : ℕ → ParseResult} {More : ℕ → ParseResult → ParseResult} {at d n m need : ℕ} {b a : Arrays}
+    {e n₁ m₁ : ℕ} (c : Chaining G More need class s at d n m b a e n₁ m₁) where
+  pub operand-asks : {sign : ℕ} → (ampersand ≤ sign) × (sign ≤ bar) →
+      IsClassTable class × ((ampersand ≤ sign) × ((sign ≤ bar) × ((0 < n₁) × (n₁ ≤ length (a .tags)))))
+  operand-asks h =
+      let p = c .before in
+      let l = c .sofar in
+      (p .table, (h .0, (h .1, (omega (arith, l .some), omega (arith, p .roomy, l .room, l .within, l .long .tags)))))
 
-  pub operand-follows : (sign kind : ℕ) {r : Operand} → r ≡ nextOperand s e sign (a .tags) n₁ kind → {y k : ℕ} → r ≡ At y k → Follows s e sign (a .tags) n₁ kind y k
+  pub operand-follows : (sign kind : ℕ) {r : Operand} → r ≡ nextOperand s e sign (a .tags) n₁ kind → {y k : ℕ} → r ≡ At y k →
+      Follows s e sign (a .tags) n₁ kind y k
   operand-follows sign kind q = follows s e sign (a .tags) n₁ kind q (omega (arith, c .sofar .some))
 
   module _ {sign kind y k : ℕ} (f : Follows s e sign (a .tags) n₁ kind y k) where
@@ -146,15 +161,21 @@ module _ {class s : List ℕ} {G : ℕ → ParseResult} {More : ℕ → ParseRes
       pub right-fewer : left s e₂ < left s e
       right-fewer = omega (arith, r .fewer, f .signed .bounds)
 
-module _ {class s : List ℕ} {G : ℕ → ParseResult} {More : ℕ → ParseResult → ParseResult} {Op : ℕ → ℕ → ParseResult} {sign : ℕ} {j : Join} {at d n m need : ℕ} {b a : Arrays} {e n₁ m₁ : ℕ} (L : Level s G More Op sign j at) (c : Chaining G More need class s at d n m b a e n₁ m₁) {y k : ℕ} (f : Follows s e sign (a .tags) n₁ (joinKind j) y k) {need₂ : ℕ} (enough : need₂ ≤ 3 * left s y + 2) {a₂ : Arrays} {r : ParseEnd} (q : ParseAnswer (λ (i : ℕ). Op i y) need₂ s y k m₁ a a₂ r) where
+module _ {class s : List ℕ} {G : ℕ → ParseResult} {More : ℕ → ParseResult → ParseResult} {Op : ℕ → ℕ → ParseResult} {sign : ℕ}
+    {j : Join} {at d n m need : ℕ} {b a : Arrays} {e n₁ m₁ : ℕ} (L : Level s G More Op sign j at)
+    (c : Chaining G More need class s at d n m b a e n₁ m₁) {y k : ℕ} (f : Follows s e sign (a .tags) n₁ (joinKind j) y k)
+    {need₂ : ℕ} (enough : need₂ ≤ 3 * left s y + 2) {a₂ : Arrays} {r : ParseEnd} (q : ParseAnswer (λ (i : ℕ). Op i y) need₂ s y k m₁ a a₂ r) where
   pub right-fails : {b₀ a₀ : Arrays} {x : _} → r ≡ Refused x → ParseAnswer G need s at n m b₀ a₀ r
   right-fails h = gave-refused h (right-refused L (f .signed .sign) (f .signed .bounds .2) (c .sofar) enough (q .refused _ h))
 
-  pub chain-turn : Lengths a₂ a → {e₂ n₂ m₂ n₃ : ℕ} → r ≡ Done e₂ n₂ m₂ → {a₃ : Arrays} → (n₃ ≡ n₂ + 1) × Joined j n n₂ (a₂ .tags) (a₂ .args) (a₃ .tags) (a₃ .args) → a₃ .names ≡ a₂ .names → Chaining G More need class s at d n m b a₃ e₂ n₃ m₂
+  pub chain-turn : Lengths a₂ a → {e₂ n₂ m₂ n₃ : ℕ} → r ≡ Done e₂ n₂ m₂ → {a₃ : Arrays} →
+      (n₃ ≡ n₂ + 1) × Joined j n n₂ (a₂ .tags) (a₂ .args) (a₃ .tags) (a₃ .args) → a₃ .names ≡ a₂ .names → Chaining G More need class s at d n m b a₃ e₂ n₃ m₂
   chain-turn same {e₂} {n₂} {m₂} {n₃} h {a₃} w names =
       let p = c .before in
       let l = c .sofar in
       let read = q .done _ _ _ h in
       let room = right-room c f read same in
-      let whole : Sofar G More need s at n m (length (b .tags)) b a₃ e₂ (n₂ + 1) m₂ = turn L (f .signed .sign) (f .signed .bounds .2) (f .signed .bounds .0) (omega (arith, p)) (p .long) l (f .keeps) enough read (still (l .long) (same .tags) (same .args) (same .names)) (omega (arith, room .tags, same, l .long)) (w .1) names in
+      let whole : Sofar G More need s at n m (length (b .tags)) b a₃ e₂ (n₂ + 1) m₂ =
+      turn L (f .signed .sign) (f .signed .bounds .2) (f .signed .bounds .0) (omega (arith, p)) (p .long) l
+      (f .keeps) enough read (still (l .long) (same .tags) (same .args) (same .names)) (omega (arith, room .tags, same, l .long)) (w .1) names in
       record { before = p; sofar = rw (w .0) whole }

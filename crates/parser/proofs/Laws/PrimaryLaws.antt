@@ -32,7 +32,8 @@ no-name : (u : Test) → length (leafName (leafOf u)) ≡ 0
 no-name (OlderThan i) = refl
 no-name (Readable i) = refl
 
-module _ {class s : List ℕ} {at d n m : ℕ} {b : Arrays} (p : Before class s at d n m b) {h : PrimaryStart} (g : Begins s at (at + 1) (left s at - 1) h (primaryStart s d (tokensFrom s at))) where
+module _ {class s : List ℕ} {at d n m : ℕ} {b : Arrays} (p : Before class s at d n m b) {h : PrimaryStart}
+    (g : Begins s at (at + 1) (left s at - 1) h (primaryStart s d (tokensFrom s at))) where
   pub primary-refused : {a : Arrays} {x : Refusal} → h ≡ NoHead x → Primary s d at n m b a (Refused x)
   primary-refused q = gave-refused refl (head-refused s d at (head-is at g q))
 
@@ -81,7 +82,8 @@ module _ {class s : List ℕ} {at d n m : ℕ} {b : Arrays} (p : Before class s 
         long = p .long;
       }
 
-  module _ {e : ℕ} (q : h ≡ Group e) {a : Arrays} {v : ParseEnd} (inner : ParseAnswer (λ (f : ℕ). orIn f s (d + 1) (tokensFrom s e)) (3 * left s e + 3) s e n m b a v) where
+  module _ {e : ℕ} (q : h ≡ Group e) {a : Arrays} {v : ParseEnd}
+      (inner : ParseAnswer (λ (f : ℕ). orIn f s (d + 1) (tokensFrom s e)) (3 * left s e + 3) s e n m b a v) where
     pub group-refused : {x : Refusal} → v ≡ Refused x → Primary s d at n m b a (Refused x)
     group-refused is = gave-refused refl (inner-refused s d at (head-is at g q) (head-ahead at g (ap startNext q)) (inner .refused _ is))
 

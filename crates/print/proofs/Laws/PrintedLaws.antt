@@ -27,7 +27,8 @@ module _ (i t : List ℕ) where
   refused-16 e = rw (isSome-false (decode i) e)
 
   -- k is the length of the text of whatever rule has all n nodes
-  module _ (image : isSome (decode i) ≡ true) {n k : ℕ} (p : n ≡ nodeCountIn i) (long : (r : Rule) → size r ≡ n → EncodedAt r (cellAt i n) 0 → k ≡ length (textOf r)) where
+  module _ (image : isSome (decode i) ≡ true) {n k : ℕ} (p : n ≡ nodeCountIn i)
+      (long : (r : Rule) → size r ≡ n → EncodedAt r (cellAt i n) 0 → k ≡ length (textOf r)) where
     pub refused-1 : length t < k → outcome (Refused (refusal shortBuffer 0)) t ≡ printInto i t
     unfolding printInto
     refused-1 short =
@@ -37,7 +38,8 @@ module _ (i t : List ℕ) where
         rw (e, lt-ltb (length t) (length (textOf r)) (omega arith))
 
     -- and the text was written into the buffer so that it ends at k
-    pub printed : {t′ : List ℕ} {start : ℕ} → k ≤ length t → ((r : Rule) → size r ≡ n → EncodedAt r (cellAt i n) 0 → WrittenAt t t′ start k (textOf r)) → outcome (Printed k) t′ ≡ printInto i t
+    pub printed : {t′ : List ℕ} {start : ℕ} → k ≤ length t →
+        ((r : Rule) → size r ≡ n → EncodedAt r (cellAt i n) 0 → WrittenAt t t′ start k (textOf r)) → outcome (Printed k) t′ ≡ printInto i t
     unfolding printInto
     printed {t′} {start} room puts =
         let (r, e) = isSome-true (decode i) image in

@@ -25,17 +25,24 @@ text-size-requires : tie.Need-text-size-requires
 text-size-requires c κs = (image-inside _ (the-image (c .before)) (c .node-count .ensures .0), image-few _ (the-image (c .before)) (c .node-count .ensures .0))
 
 returns-2 : tie.Need-returns-2
-returns-2 c = rw (c .refuse2 .ensures) (refused-1 _ _ (the-image (c .before .before .before .before)) (c .before .before .before .node-count .ensures .0) (c .before .before .text-size .ensures) (c .before .if2 .taken))
+returns-2 c =
+    rw (c .refuse2 .ensures)
+    (refused-1 _ _ (the-image (c .before .before .before .before)) (c .before .before .before .node-count .ensures .0)
+    (c .before .before .text-size .ensures) (c .before .if2 .taken))
 
 put-rule-requires : tie.Need-put-rule-requires
 put-rule-requires c κs =
-    let e = c .before in
-    (image-inside _ (the-image (e .before .before .before)) (e .before .before .node-count .ensures .0), λ r z st. omega (arith, e .before .text-size .ensures r z st), omega (arith, e .if2 .left))
+    let e = c .before in (
+      image-inside _ (the-image (e .before .before .before)) (e .before .before .node-count .ensures .0),
+      λ r z st. omega (arith, e .before .text-size .ensures r z st),
+      omega (arith, e .if2 .left),
+    )
 
 returns-3 : tie.Need-returns-3
 returns-3 c =
     let e = c .before .before .before .before in
-    printed _ _ (the-image (e .before .before .before)) (e .before .before .node-count .ensures .0) (e .before .text-size .ensures) (e .if2 .left) (c .before .before .put-rule .ensures)
+    printed _ _ (the-image (e .before .before .before)) (e .before .before .node-count .ensures .0)
+    (e .before .text-size .ensures) (e .if2 .left) (c .before .before .put-rule .ensures)
 
 pub print-spec : {M : Type 1} → statement M
 print-spec =

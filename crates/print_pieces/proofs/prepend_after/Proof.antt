@@ -35,8 +35,8 @@ prepend-requires-4 c κs =
 returns : tie.Need-returns
 unfolding afterChildOf afterChild
 returns c =
-    let m = c .before .before .before .before .before in
-    rw (m .before .if1 .taken, m .match .keys1) (c .before .before .prepend .ensures)
+    let at-match = c .before .before .before .before .before in
+    rw (at-match .before .if1 .taken, at-match .match .keys1) (c .before .before .prepend .ensures)
 
 returns-2 : tie.Need-returns-2
 returns-2 c = rw (after-child-none (c .before .before .before .args .kind) (λ e. omega arith) (λ h k. c .before .if1 .taken)) (written-at-none _ _)
@@ -44,23 +44,25 @@ returns-2 c = rw (after-child-none (c .before .before .before .args .kind) (λ e
 returns-3 : tie.Need-returns-3
 unfolding afterChildOf afterChild
 returns-3 c =
-    let m = c .before .before .before .before .before in
-    rw (m .before .if1 .left, m .match2 .keys1) (c .before .before .prepend2 .ensures)
+    let at-match2 = c .before .before .before .before .before in
+    rw (at-match2 .before .if1 .left, at-match2 .match2 .keys1) (c .before .before .prepend2 .ensures)
 
 returns-4 : tie.Need-returns-4
 unfolding afterChildOf afterChild
 returns-4 c =
-    let m = c .before .before .before .before .before in
-    rw (m .before .if1 .left, m .match2 .keys2) (c .before .before .prepend3 .ensures)
+    let at-match2 = c .before .before .before .before .before in
+    rw (at-match2 .before .if1 .left, at-match2 .match2 .keys2) (c .before .before .prepend3 .ensures)
 
 returns-5 : tie.Need-returns-5
 unfolding afterChildOf afterChild
 returns-5 c =
-    let m = c .before .before .before .before .before in
-    rw (m .before .if1 .left, m .match2 .keys3) (c .before .before .prepend4 .ensures)
+    let at-match2 = c .before .before .before .before .before in
+    rw (at-match2 .before .if1 .left, at-match2 .match2 .keys3) (c .before .before .prepend4 .ensures)
 
 returns-6 : tie.Need-returns-6
-returns-6 c = rw (after-child-none (c .before .before .before .args .kind) {last = c .before .before .before .args .last} (λ e. omega arith) (λ h k. absurd (omega arith))) (written-at-none _ _)
+returns-6 c =
+    rw (after-child-none (c .before .before .before .args .kind) {last = c .before .before .before .args .last}
+    (λ e. omega arith) (λ h k. absurd (omega arith))) (written-at-none _ _)
 
 pub prepend-after-spec : {M : Type 1} → statement M
 prepend-after-spec =

@@ -17,16 +17,16 @@ prepend-requires : tie.Need-prepend-requires
 unfolding backOf bracket
 prepend-requires c κs =
     let i = c .before .before in
-    let s = i .before .before .before .before .before .before .before in
-    (omega (arith, simp length-append at (rw (sym (i .before .is-bracketed .ensures) ∙ i .if1 .taken) at (s .pre .0))), omega arith)
+    let entry = i .before .before .before .before .before .before .before in
+    (omega (arith, simp length-append at (rw (sym (i .before .is-bracketed .ensures) ∙ i .if1 .taken) at (entry .pre .0))), omega arith)
 
 returns : tie.Need-returns
 unfolding backOf bracket
 returns c =
-    let i = c .before .before .before .before .before in
-    let s = i .before .before .before .before .before .before .before in
-    rw (sym (i .before .is-bracketed .ensures) ∙ i .if1 .taken)
-    (written-at-before (s .pre .1) (i .before .before .before .before .prepend-after .ensures) (c .before .before .prepend .ensures))
+    let then1 = c .before .before .before .before .before in
+    let entry = then1 .before .before .before .before .before .before .before in
+    rw (sym (then1 .before .is-bracketed .ensures) ∙ then1 .if1 .taken)
+    (written-at-before (entry .pre .1) (then1 .before .before .before .before .prepend-after .ensures) (c .before .before .prepend .ensures))
 
 returns-2 : tie.Need-returns-2
 unfolding backOf bracket

@@ -25,8 +25,8 @@ same-length c = search needs
 returns : tie.Need-returns
 unfolding frontOf bracket
 returns c =
-    let i = c .before .before .before .before .before in
-    rw (sym (i .before .is-bracketed .ensures) ∙ i .if1 .taken) (c .before .before .prepend .ensures)
+    let then1 = c .before .before .before .before .before in
+    rw (sym (then1 .before .is-bracketed .ensures) ∙ then1 .if1 .taken) (c .before .before .prepend .ensures)
 
 returns-2 : tie.Need-returns-2
 unfolding frontOf bracket

@@ -29,14 +29,14 @@ prepend-requires-2 c κs =
 format-duration-requires : tie.Need-format-duration-requires
 unfolding leafTextOf leafText meaning
 format-duration-requires c κs =
-    let m = c .before .before .before .before .before .before in
-    (omega (arith, simp length-append at (rw (m .match .keys2) at (m .before .before .before .pre .1))), omega arith)
+    let at-match = c .before .before .before .before .before .before in
+    (omega (arith, simp length-append at (rw (at-match .match .keys2) at (at-match .before .before .before .pre .1))), omega arith)
 
 prepend-requires-3 : tie.Need-prepend-requires-3
 unfolding leafTextOf leafText meaning
 prepend-requires-3 c κs =
-    let m = c .before .before .before .before .before .before .before .before .before .before .before in
-    (omega (arith, simp length-append at (rw (m .match .keys2) at (m .before .before .before .pre .1))), omega arith)
+    let at-match = c .before .before .before .before .before .before .before .before .before .before .before in
+    (omega (arith, simp length-append at (rw (at-match .match .keys2) at (at-match .before .before .before .pre .1))), omega arith)
 
 prepend-requires-4 : tie.Need-prepend-requires-4
 unfolding leafTextOf leafText meaning
@@ -47,43 +47,48 @@ prepend-requires-4 c κs =
 prepend-digits-requires : tie.Need-prepend-digits-requires
 unfolding leafTextOf leafText meaning
 prepend-digits-requires c κs =
-    let m = c .before .before .before .before .before .before in
-    (omega (arith, simp length-append at (rw (m .match .keys3) at (m .before .before .before .pre .1))), omega arith)
+    let at-match = c .before .before .before .before .before .before in
+    (omega (arith, simp length-append at (rw (at-match .match .keys3) at (at-match .before .before .before .pre .1))), omega arith)
 
 prepend-requires-5 : tie.Need-prepend-requires-5
 unfolding leafTextOf leafText meaning
 prepend-requires-5 c κs =
-    let m = c .before .before .before .before .before .before .before .before .before .before .before in
-    (omega (arith, simp length-append at (rw (m .match .keys3) at (m .before .before .before .pre .1))), omega arith)
+    let at-match = c .before .before .before .before .before .before .before .before .before .before .before in
+    (omega (arith, simp length-append at (rw (at-match .match .keys3) at (at-match .before .before .before .pre .1))), omega arith)
 
 returns : tie.Need-returns
 unfolding leafTextOf leafText meaning
 returns c =
-    let m = c .before .before .before .before .before in
-    rw (m .match .keys1) (rw (c .before .before .before .name-of .ensures) at (c .before .before .prepend .ensures))
+    let at-match = c .before .before .before .before .before in
+    rw (at-match .match .keys1) (rw (c .before .before .before .name-of .ensures) at (c .before .before .prepend .ensures))
 
 returns-2 : tie.Need-returns-2
 unfolding leafTextOf leafText meaning
 returns-2 c =
-    let d = c .before .before .before .before .before .before .before in
-    let p = d .before .before .before .before in
-    let m = p .before .before .before in
-    let l = m .before .before .before .pre .2 in
-    rw (m .match .keys2) (written-at-before l (written-at-before l (p .prepend2 .ensures) (d .format-duration .ensures)) (c .before .before .prepend3 .ensures))
+    let after-format-duration = c .before .before .before .before .before .before .before in
+    let after-prepend2 = after-format-duration .before .before .before .before in
+    let at-match = after-prepend2 .before .before .before in
+    let l = at-match .before .before .before .pre .2 in
+    rw (at-match .match .keys2)
+    (written-at-before l
+    (written-at-before l (after-prepend2 .prepend2 .ensures) (after-format-duration .format-duration .ensures)) (c .before .before .prepend3 .ensures))
 
 returns-3 : tie.Need-returns-3
 unfolding leafTextOf leafText meaning
 returns-3 c =
-    let d = c .before .before .before .before .before .before .before in
-    let p = d .before .before .before .before in
-    let m = p .before .before .before in
-    let l = m .before .before .before .pre .2 in
-    rw (m .match .keys3) (written-at-before l (written-at-before l (p .prepend4 .ensures) (d .prepend-digits .ensures)) (c .before .before .prepend5 .ensures))
+    let after-prepend-digits = c .before .before .before .before .before .before .before in
+    let after-prepend4 = after-prepend-digits .before .before .before .before in
+    let at-match = after-prepend4 .before .before .before in
+    let l = at-match .before .before .before .pre .2 in
+    rw (at-match .match .keys3)
+    (written-at-before l
+    (written-at-before l (after-prepend4 .prepend4 .ensures) (after-prepend-digits .prepend-digits .ensures)) (c .before .before .prepend5 .ensures))
 
 returns-4 : tie.Need-returns-4
 returns-4 c =
     let s = c .before .before .before in
-    rw (no-leaf-text (s .args .image .now) (s .args .n) (s .args .kind) (s .args .arg) (other-kind (s .args .kind) (λ q. omega arith) (λ q. omega arith) (λ q. omega arith))) (written-at-none _ _)
+    rw (no-leaf-text (s .args .image .now) (s .args .n) (s .args .kind) (s .args .arg)
+    (other-kind (s .args .kind) (λ q. omega arith) (λ q. omega arith) (λ q. omega arith))) (written-at-none _ _)
 
 pub prepend-leaf-spec : {M : Type 1} → statement M
 prepend-leaf-spec =

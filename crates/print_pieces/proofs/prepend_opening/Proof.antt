@@ -18,22 +18,25 @@ prepend-requires c κs =
 prepend-digits-requires : tie.Need-prepend-digits-requires
 unfolding openingOf opening
 prepend-digits-requires c κs =
-    let m = c .before .before .before .before .before .before in
-    (omega (arith, simp length-append at (rw (m .match .keys1) at (m .before .before .pre .0))), omega arith)
+    let at-match = c .before .before .before .before .before .before in
+    (omega (arith, simp length-append at (rw (at-match .match .keys1) at (at-match .before .before .pre .0))), omega arith)
 
 prepend-requires-2 : tie.Need-prepend-requires-2
 unfolding openingOf opening
 prepend-requires-2 c κs =
-    let m = c .before .before .before .before .before .before .before .before .before .before .before in
-    (omega (arith, simp length-append at (rw (m .match .keys1) at (m .before .before .pre .0))), omega arith)
+    let at-match = c .before .before .before .before .before .before .before .before .before .before .before in
+    (omega (arith, simp length-append at (rw (at-match .match .keys1) at (at-match .before .before .pre .0))), omega arith)
 
 returns : tie.Need-returns
 unfolding openingOf opening
 returns c =
-    let d = c .before .before .before .before .before .before .before in
-    let p = d .before .before .before .before in
-    let m = p .before .before .before in
-    rw (m .match .keys1) (written-at-before (m .before .before .pre .1) (written-at-before (m .before .before .pre .1) (p .prepend .ensures) (d .prepend-digits .ensures)) (c .before .before .prepend2 .ensures))
+    let after-prepend-digits = c .before .before .before .before .before .before .before in
+    let after-prepend = after-prepend-digits .before .before .before .before in
+    let at-match = after-prepend .before .before .before in
+    rw (at-match .match .keys1)
+    (written-at-before (at-match .before .before .pre .1)
+    (written-at-before (at-match .before .before .pre .1) (after-prepend .prepend .ensures) (after-prepend-digits .prepend-digits .ensures))
+    (c .before .before .prepend2 .ensures))
 
 returns-2 : tie.Need-returns-2
 returns-2 c = rw (no-opening (c .before .before .args .kind) _ (λ e. omega arith)) (written-at-none _ _)

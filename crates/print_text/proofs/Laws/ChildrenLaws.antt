@@ -63,8 +63,18 @@ module _ (s : List ℕ) (n : ℕ) where
     unfolding size EncodedAt textOf upTo
     walks-start high p (leaf l) e st = absurd (no-leaf s n (d .kind) (d .arg) high l (root (leaf l) e st))
     walks-start high p (node j rs r) e st =
-        let (x, y) = rw (root (node j rs r) e st) at (says s n (d .kind) (d .arg)) in
-        (more rs r, [], record { join = j; kinded = x; standing = (st .0, st .1); ends = omega arith; text = rw (x, y, opening-of j, eq-eqb i (from + k - 1) (omega arith), append-nil) }, p)
+        let (x, y) = rw (root (node j rs r) e st) at (says s n (d .kind) (d .arg)) in (
+          more rs r,
+          [],
+          record {
+            join = j;
+            kinded = x;
+            standing = (st .0, st .1);
+            ends = omega arith;
+            text = rw (x, y, opening-of j, eq-eqb i (from + k - 1) (omega arith), append-nil);
+          },
+          p,
+        )
 
   -- the child before `end`, whose root was read as d, is the next to be passed
   pub record Turn (kind arg from k end : ℕ) (P : List ℕ → Type 0) (ρ : Rule) (d : Node) : Type 0 where
@@ -76,11 +86,14 @@ module _ (s : List ℕ) (n : ℕ) where
     pub passed : List ℕ
     pub holds : P passed
     pub before : Rules
-    pub next : Walk kind arg from k (end - d .size) ρ before (frontOf kind (d .kind) ++ (textOf child ++ (backOf kind (d .kind) (eqb end (from + k - 1)) ++ passed)))
+    pub next : Walk kind arg from k (end - d .size) ρ before
+        (frontOf kind (d .kind) ++ (textOf child ++ (backOf kind (d .kind) (eqb end (from + k - 1)) ++ passed)))
 
   -- what surrounds it and what was passed fit into the text
   pub turn-room : {kind arg from k end : ℕ} {P : List ℕ → Type 0} {ρ : Rule} {d : Node} (t : Turn kind arg from k end P ρ d) →
-      length (openingOf kind arg) + (length (frontOf kind (d .kind)) + (length (textOf (t .child)) + (length (backOf kind (d .kind) (eqb end (from + k - 1))) + length (t .passed)))) ≤ length (textOf ρ)
+      length (openingOf kind arg)
+      + (length (frontOf kind (d .kind)) + (length (textOf (t .child)) + (length (backOf kind (d .kind) (eqb end (from + k - 1))) + length (t .passed))))
+      ≤ length (textOf ρ)
   turn-room t = omega (arith, simp length-append at (ap length (t .next .text)))
 
   -- ---- the walk has come to `end`
@@ -112,7 +125,8 @@ module _ (s : List ℕ) (n : ℕ) where
               kinded = w .kinded;
               standing = w .standing .0;
               ends = p;
-              text = rw (ne-eqb (end - d .size) (from + k - 1) (λ f. omega arith), ← up-to rest j, x, w .kinded) (w .text ∙ rw (child-of j q (textOf q) (eqb end (from + k - 1)), w .kinded) (simp append-assoc));
+              text = rw (ne-eqb (end - d .size) (from + k - 1) (λ f. omega arith), ← up-to rest j, x, w .kinded)
+                  (w .text ∙ rw (child-of j q (textOf q) (eqb end (from + k - 1)), w .kinded) (simp append-assoc));
             };
           }
 
@@ -121,7 +135,8 @@ module _ (s : List ℕ) (n : ℕ) where
 
       -- one child more is passed
       pub walks-next : {P′ : List ℕ → Type 0} →
-          ((q : Rule) (t : List ℕ) → size q ≡ d .size → EncodedAt q (cellAt s n) (end - d .size) → P t → P′ (frontOf kind (d .kind) ++ (textOf q ++ (backOf kind (d .kind) (eqb end (from + k - 1)) ++ t)))) →
+          ((q : Rule) (t : List ℕ) → size q ≡ d .size → EncodedAt q (cellAt s n) (end - d .size) → P t →
+          P′ (frontOf kind (d .kind) ++ (textOf q ++ (backOf kind (d .kind) (eqb end (from + k - 1)) ++ t)))) →
           Walks kind arg from k (end - d .size) P′
       walks-next f ρ e st = let t = turn ρ e st in (t .before, _, t .next, f (t .child) (t .passed) (t .sized) (t .stands) (t .holds))
 

@@ -75,7 +75,8 @@ bracketed-of all q = any-of q
 bracketed-of any q = refl
 
 -- a child with what surrounds it
-pub child-of : (j : Join) (q : Rule) (t : List ℕ) (last : Bool) → childText j q t last ≡ frontOf (joinKind j) (kindOf q) ++ (t ++ backOf (joinKind j) (kindOf q) last)
+pub child-of : (j : Join) (q : Rule) (t : List ℕ) (last : Bool) →
+    childText j q t last ≡ frontOf (joinKind j) (kindOf q) ++ (t ++ backOf (joinKind j) (kindOf q) last)
 unfolding childText frontOf backOf
 child-of j q t last = rw (bracketed-of j q, after-child-of j last)
 
@@ -148,4 +149,5 @@ unfolding meaning leafTextOf
 leaf-short s n zero a = omega (arith, length-take (nameLength a) (drop (namesStart n + nameStart a) s))
 leaf-short s n (suc zero) a = simp length-append (omega (arith, duration-short a))
 leaf-short s n (suc (suc zero)) a = simp length-append (omega (arith, digits-short a))
-leaf-short s n (suc (suc (suc k))) a = rw (no-leaf-text s n (suc (suc (suc k))) a (other-kind (suc (suc (suc k))) (λ q. omega arith) (λ q. omega arith) (λ q. omega arith))) (omega arith)
+leaf-short s n (suc (suc (suc k))) a =
+    rw (no-leaf-text s n (suc (suc (suc k))) a (other-kind (suc (suc (suc k))) (λ q. omega arith) (λ q. omega arith) (λ q. omega arith))) (omega arith)

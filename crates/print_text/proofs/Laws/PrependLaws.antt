@@ -20,11 +20,13 @@ pub put-start : {a b v : List ℕ} {to end : ℕ} → end ≤ length a → Writt
 put-start long x = omega (arith, written-at-length long x, x .ends)
 
 -- of a rule whose text has room before `end`, a part is written from `to` on, and a child is the next to be written
-module _ {s : List ℕ} {n kind arg from k stop : ℕ} {a b : List ℕ} {to end : ℕ} {ρ : Rule} {d : Node} (fits : length (textOf ρ) ≤ end) (u : Turn s n kind arg from k stop (λ t. WrittenAt a b to end t) ρ d) where
+module _ {s : List ℕ} {n kind arg from k stop : ℕ} {a b : List ℕ} {to end : ℕ} {ρ : Rule} {d : Node}
+    (fits : length (textOf ρ) ≤ end) (u : Turn s n kind arg from k stop (λ t. WrittenAt a b to end t) ρ d) where
   -- its pieces have room before `to`
   pub pieces-room : length (frontOf kind (d .kind)) + (length (textOf (u .child)) + length (backOf kind (d .kind) (eqb stop (from + k - 1)))) ≤ to
   pieces-room = omega (arith, turn-room s n u, u .holds .ends)
 
   -- and so has its text, once what comes after it is written
-  pub child-room : {p : ℕ} → p + length (backOf kind (d .kind) (eqb stop (from + k - 1))) ≡ to → (r : Rule) → size r ≡ d .size → EncodedAt r (cellAt s n) (stop - d .size) → length (textOf r) ≤ p
+  pub child-room : {p : ℕ} → p + length (backOf kind (d .kind) (eqb stop (from + k - 1))) ≡ to → (r : Rule) → size r ≡ d .size →
+      EncodedAt r (cellAt s n) (stop - d .size) → length (textOf r) ≤ p
   child-room e r z st = rw (one-rule r (u .child) (cellAt s n) (stop - d .size) (z ∙ sym (u .sized)) st (u .stands)) (omega (arith, pieces-room))

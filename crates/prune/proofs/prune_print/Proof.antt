@@ -5,10 +5,14 @@ use Rattle.prune.proofs.prune_print.Statement.{statement}
 use Rattle.prune.proofs.prune_print.Tie as tie
 
 returns : tie.Need-returns
-returns c = print-answer (c .before .before .before .before .before .before .print .ensures) (c .before .before .size .given .1) (c .answer .ensures)
+returns c =
+    let after-print = c .before .before .before .before .before .before in
+    print-answer (after-print .print .ensures) (c .before .before .size .given .1) (c .answer .ensures)
 
 returns-2 : tie.Need-returns-2
-returns-2 c = print-answer (c .before .before .before .before .before .before .print .ensures) (c .before .before .f .given .1) (c .answer2 .ensures)
+returns-2 c =
+    let after-print = c .before .before .before .before .before .before in
+    print-answer (after-print .print .ensures) (c .before .before .f .given .1) (c .answer2 .ensures)
 
 pub prune-print-spec : {M : Type 1} → statement M
 prune-print-spec =

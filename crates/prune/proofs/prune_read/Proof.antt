@@ -5,10 +5,14 @@ use Rattle.prune.proofs.prune_read.Statement.{statement}
 use Rattle.prune.proofs.prune_read.Tie as tie
 
 returns : tie.Need-returns
-returns c = read-answer (c .before .before .before .before .before .before .read .ensures) (c .before .before .size .given .1) (c .answer .ensures)
+returns c =
+    let after-read = c .before .before .before .before .before .before in
+    read-answer (after-read .read .ensures) (c .before .before .size .given .1) (c .answer .ensures)
 
 returns-2 : tie.Need-returns-2
-returns-2 c = read-answer (c .before .before .before .before .before .before .read .ensures) (c .before .before .f .given .1) (c .answer2 .ensures)
+returns-2 c =
+    let after-read = c .before .before .before .before .before .before in
+    read-answer (after-read .read .ensures) (c .before .before .f .given .1) (c .answer2 .ensures)
 
 pub prune-read-spec : {M : Type 1} → statement M
 prune-read-spec =

@@ -33,7 +33,8 @@ module _ {x : Read} {s : List ℕ} {a : Arrays} {n m : ℕ} (w : Whole x s a n m
   unfolding encode
   image-is = rw (w .tags, w .args, w .names, w .nodes)
 
-  pub says-rule : (i : List ℕ) {i′ : List ℕ} {len : ℕ} → len ≡ namesStart n + m → i′ ≡ written i 0 (imageOf n (take n (a .tags)) (take n (a .args)) (take m (a .names))) → outcome (Written len) i′ ≡ readingOf x i
+  pub says-rule : (i : List ℕ) {i′ : List ℕ} {len : ℕ} → len ≡ namesStart n + m →
+      i′ ≡ written i 0 (imageOf n (take n (a .tags)) (take n (a .args)) (take m (a .names))) → outcome (Written len) i′ ≡ readingOf x i
   says-rule i {i′} {len} q e =
       let r = w .tree in
       let long : len ≡ length (encode r) = omega (arith, length-encode r, w .nodes, w .bytes) in

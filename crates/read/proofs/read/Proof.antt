@@ -19,7 +19,9 @@ same-length : tie.Need-same-length
 same-length c = search needs
 
 returns-3 : tie.Need-returns-3
-returns-3 c = c .before .before .read-fitting .ensures ∙ sym (reads _ _ (c .before .before .before .before .before .if1 .left) refl)
+returns-3 c =
+    let else1 = c .before .before .before .before .before in
+    c .before .before .read-fitting .ensures ∙ sym (reads _ _ (else1 .if1 .left) refl)
 
 pub read-spec : {M : Type 1} → statement M
 read-spec = tie.close (tie.spec returns returns-2 read-fitting-requires same-length returns-3)

@@ -7,16 +7,23 @@ use Rattle.read.proofs.read_by.Tie as tie
 
 write-image-requires : tie.Need-write-image-requires
 write-image-requires c κs =
-    let w = c .before .before .before .before .before .before .before .before .before .before .before .before .before .parse-text .ensures .done _ _ _ (c .before .before .before .before .before .n .given .1) in
-    omega (arith, w, c .before .before .before .before .before .before .before .before .before .before .before .before .before .parse-text .kept, c .before .before .before .before .before .before .before .before .before .before .before .before .before .before .before .before .before .before .before .before .before .before .pre)
+    let after-n = c .before .before .before .before .before in
+    let after-parse-text = after-n .before .before .before .before .before .before .before .before in
+    let entry = after-parse-text .before .before .before .before .before .before .before .before .before in
+    let w = after-parse-text .parse-text .ensures .done _ _ _ (after-n .n .given .1) in
+    omega (arith, w, after-parse-text .parse-text .kept, entry .pre)
 
 returns : tie.Need-returns
 returns c =
-    let w = c .before .before .before .before .before .before .before .before .before .before .before .before .before .before .before .before .parse-text .ensures .done _ _ _ (c .before .before .before .before .before .before .before .before .n .given .1) in
+    let after-n = c .before .before .before .before .before .before .before .before in
+    let after-parse-text = after-n .before .before .before .before .before .before .before .before in
+    let w = after-parse-text .parse-text .ensures .done _ _ _ (after-n .n .given .1) in
     says-rule w _ (c .before .before .write-image .ensures .0) (c .before .before .write-image .ensures .1)
 
 returns-2 : tie.Need-returns-2
-returns-2 c = rw (c .before .before .before .before .before .before .before .before .before .parse-text .ensures .refused _ (c .before .f .given .1))
+returns-2 c =
+    let after-parse-text = c .before .before .before .before .before .before .before .before .before in
+    rw (after-parse-text .parse-text .ensures .refused _ (c .before .f .given .1))
 
 pub read-by-spec : {M : Type 1} → statement M
 read-by-spec =

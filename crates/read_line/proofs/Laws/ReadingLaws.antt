@@ -25,5 +25,6 @@ module _ {text image : List ℕ} {len : ℕ} (g : Found text len image) where
       let f = read-fits text r (g .says) in
       let h : Has image 0 (encode r) = rw (g .long) at (g .taken) in
       let nodes = number-at image 0 2 (size r) (omega arith) (has-front image (leBytes 2 (size r)) _ 0 h) in
-      let bs = number-at image 2 2 (length (names r)) (omega arith) (has-front image (leBytes 2 (length (names r))) _ 2 (has-back image (leBytes 2 (size r)) _ 0 2 refl h)) in
+      let bs = number-at image 2 2 (length (names r)) (omega arith)
+      (has-front image (leBytes 2 (length (names r))) _ 2 (has-back image (leBytes 2 (size r)) _ 0 2 refl h)) in
       rw (g .says, p, q, nodes, bs)

@@ -8,11 +8,19 @@ use Rattle.read_line.proofs.reading_line.Tie as tie
 
 returns : tie.Need-returns
 returns c =
-    let g = read-rule _ _ (search needs) (c .before .before .before .before .before .before .before .before .before .before .before .before .read .ensures) (c .before .before .before .before .before .before .before .before .before .enum-told .given .1) in
-    rw (read-numbers g (c .before .before .before .before .before .before .before .node-count .ensures .0) (c .before .before .before .before .before .name-byte-count .ensures .0)) (c .before .before .append-numbers .ensures)
+    let after-name-byte-count = c .before .before .before .before .before in
+    let after-node-count = after-name-byte-count .before .before in
+    let after-enum-told = after-node-count .before .before in
+    let after-read = after-enum-told .before .before .before in
+    let g = read-rule _ _ (search needs) (after-read .read .ensures) (after-enum-told .enum-told .given .1) in
+    rw (read-numbers g (after-node-count .node-count .ensures .0) (after-name-byte-count .name-byte-count .ensures .0))
+    (c .before .before .append-numbers .ensures)
 
 returns-2 : tie.Need-returns-2
-returns-2 c = rw (read-refused _ _ (search needs) (c .before .before .before .before .before .before .before .before .read .ensures) (c .before .before .before .before .before .f .given .1)) (c .before .before .append-refusal .ensures)
+returns-2 c =
+    let after-f = c .before .before .before .before .before in
+    let after-read = after-f .before .before .before in
+    rw (read-refused _ _ (search needs) (after-read .read .ensures) (after-f .f .given .1)) (c .before .before .append-refusal .ensures)
 
 pub reading-line-spec : {M : Type 1} → statement M
 reading-line-spec =

@@ -21,7 +21,8 @@ use Rattle.report.proofs.append_detail.Tie as tie
 -- there is no more to say of another number
 no-more : (c : tie.At-match-rest) →
     let a = c .before .before .before .before .args in
-    (3 ≤ a .f .number → a .f .number ≤ 15 → ⊥) → WrittenAt (a .page .now) (a .page .now) (a .at) (a .at) (detail (a .text .now) (entriesIn (a .stores .now)) (a .f))
+    (3 ≤ a .f .number → a .f .number ≤ 15 → ⊥) →
+    WrittenAt (a .page .now) (a .page .now) (a .at) (a .at) (detail (a .text .now) (entriesIn (a .stores .now)) (a .f))
 no-more c o =
     let a = c .before .before .before .before .args in
     let r = c .match .rest in
@@ -29,11 +30,13 @@ no-more c o =
 
 add-append-digits : tie.Need-add-append-digits
 add-append-digits c =
-    let m = c .before .before .before .before .before .before in
-    omega (arith, m .before .before .before .before .pre .due .index (m .match .keys1))
+    let at-match = c .before .before .before .before .before .before in
+    omega (arith, at-match .before .before .before .before .pre .due .index (at-match .match .keys1))
 
 append-requires-2 : tie.Need-append-requires-2
-append-requires-2 c κs = omega (arith, digits-short (c .before .before .before .before .before .before .before .before .before .before .before .before .before .before .before .args .f .place + 1))
+append-requires-2 c κs =
+    let entry = c .before .before .before .before .before .before .before .before .before .before .before .before .before .before .before in
+    omega (arith, digits-short (entry .args .f .place + 1))
 
 append-requires-3 : tie.Need-append-requires-3
 append-requires-3 c κs =
@@ -42,11 +45,13 @@ append-requires-3 c κs =
 
 append-age-requires-2 : tie.Need-append-age-requires-2
 append-age-requires-2 c κs =
-    let s = c .before .before .before .before .before .before .before .before .before in
-    omega (arith, lines-short (s .args .stores .now) (s .pre .laid))
+    let entry = c .before .before .before .before .before .before .before .before .before in
+    omega (arith, lines-short (entry .args .stores .now) (entry .pre .laid))
 
 append-place-requires : tie.Need-append-place-requires
-append-place-requires c κs = (c .before .before .before .before .before .before .before .pre .due .short (omega arith) (omega arith), omega arith)
+append-place-requires c κs =
+    let entry = c .before .before .before .before .before .before .before in
+    (entry .pre .due .short (omega arith) (omega arith), omega arith)
 
 returns : tie.Need-returns
 unfolding detail
@@ -54,18 +59,19 @@ returns c =
     let e₃ = c .before .before in
     let e₂ = e₃ .before .before .before .before .before in
     let e₁ = e₂ .before .before .before .before in
-    let m = e₁ .before .before .before in
-    let a = m .before .before .before .before .args in
+    let at-match = e₁ .before .before .before in
+    let a = at-match .before .before .before .before .args in
     let h : a .at ≤ length (a .page .now) = omega arith in
-    rw (m .match .keys1) (simp (append-assoc, add-one) at (written-at-after h (written-at-after h (e₁ .append .ensures) (e₂ .append-digits .ensures)) (e₃ .append2 .ensures)))
+    rw (at-match .match .keys1)
+    (simp (append-assoc, add-one) at (written-at-after h (written-at-after h (e₁ .append .ensures) (e₂ .append-digits .ensures)) (e₃ .append2 .ensures)))
 
 returns-2 : tie.Need-returns-2
 unfolding detail
 returns-2 c =
     let e₂ = c .before .before in
     let e₁ = e₂ .before .before .before .before .before in
-    let m = e₁ .before .before in
-    rw (m .match .keys2) (written-at-after (omega arith) (e₁ .append-node .ensures) (e₂ .append3 .ensures))
+    let at-match = e₁ .before .before in
+    rw (at-match .match .keys2) (written-at-after (omega arith) (e₁ .append-node .ensures) (e₂ .append3 .ensures))
 
 returns-3 : tie.Need-returns-3
 unfolding detail
@@ -87,7 +93,8 @@ returns-5 : tie.Need-returns-5
 unfolding detail
 returns-5 c =
     let e = c .before .before in
-    rw (is-within 3 15 (e .before .before .before .before .before .before .before .before .args .f .number) (omega arith) (omega arith)) (e .append-place .ensures)
+    let entry = e .before .before .before .before .before .before .before .before in
+    rw (is-within 3 15 (entry .args .f .number) (omega arith) (omega arith)) (e .append-place .ensures)
 
 returns-6 : tie.Need-returns-6
 returns-6 c = no-more (c .before) (λ p q. omega arith)

@@ -8,21 +8,24 @@ use Rattle.report.proofs.append_judged.Tie as tie
 
 append-pass-requires : tie.Need-append-pass-requires
 append-pass-requires c κs =
-    let s = c .before .before .before .before .before .before .before .before .before .before in
-    (s .pre .laid, omega (arith, verdict-short (s .args .v)))
+    let entry = c .before .before .before .before .before .before .before .before .before .before in
+    (entry .pre .laid, omega (arith, verdict-short (entry .args .v)))
 
 append-meaning-requires : tie.Need-append-meaning-requires
-append-meaning-requires c κs = omega (arith, verdict-short (c .before .before .before .before .before .before .before .before .before .before .before .args .v))
+append-meaning-requires c κs =
+    let entry = c .before .before .before .before .before .before .before .before .before .before .before in
+    omega (arith, verdict-short (entry .args .v))
 
 append-detail-requires : tie.Need-append-detail-requires
 append-detail-requires c κs =
-    let g = c .before .before .before .before .before .before .v .given in
-    let s = c .before .before .before .before .before .before .before .before .before .before .before .before .before .before .before in
+    let after-v = c .before .before .before .before .before .before in
+    let entry = after-v .before .before .before .before .before .before .before .before .before in
+    let g = after-v .v .given in
     record {
-      laid = s .pre .laid;
-      small = s .pre .small;
-      room = omega (arith, verdict-short (s .args .v), meaning-short (g .0 .0 .number));
-      due = s .pre .due _ (g .1);
+      laid = entry .pre .laid;
+      small = entry .pre .small;
+      room = omega (arith, verdict-short (entry .args .v), meaning-short (g .0 .0 .number));
+      due = entry .pre .due _ (g .1);
     }
 
 returns : tie.Need-returns
@@ -36,10 +39,12 @@ returns-2 : tie.Need-returns-2
 returns-2 c =
     let e₃ = c .before .before in
     let e₂ = e₃ .before .before .before .before in
-    let t = e₂ .before .before .before in
-    let e₁ = t .before .before .before .before in
-    let s = e₁ .before .before .before .before .before in
-    rw (t .v .given .1) (written-at-after (omega arith) (rw (t .v .given .1) at (e₁ .append-verdict .ensures)) (written-at-after (omega (arith, verdict-short (s .args .v))) (e₂ .append-meaning .ensures) (e₃ .append-detail .ensures)))
+    let after-v = e₂ .before .before .before in
+    let e₁ = after-v .before .before .before .before in
+    let entry = e₁ .before .before .before .before .before in
+    rw (after-v .v .given .1)
+    (written-at-after (omega arith) (rw (after-v .v .given .1) at (e₁ .append-verdict .ensures))
+    (written-at-after (omega (arith, verdict-short (entry .args .v))) (e₂ .append-meaning .ensures) (e₃ .append-detail .ensures)))
 
 pub append-judged-spec : {M : Type 1} → statement M
 append-judged-spec =

@@ -9,10 +9,15 @@ use Rattle.rulejudge.proofs.main.Statement.{statement}
 use Rattle.rulejudge.proofs.main.Tie as tie
 
 array-share-prefix-text : tie.Need-array-share-prefix-text
-array-share-prefix-text c = omega (arith, c .before .before .before .before .before .before .before .read-text .ensures, ap sizeOf (c .before .before .before .before .size .given .1))
+array-share-prefix-text c =
+    let after-read-text = c .before .before .before .before .before .before .before in
+    omega (arith, after-read-text .read-text .ensures, ap sizeOf (c .before .before .before .before .size .given .1))
 
 slice-aggregate-report : tie.Need-slice-aggregate-report
-slice-aggregate-report c = sym (length-take-le _ _ (omega (arith, c .before .before .before .before .before .before .before .before .read-text .ensures, ap sizeOf (c .before .before .before .before .before .size .given .1))))
+slice-aggregate-report c =
+    let after-size = c .before .before .before .before .before in
+    let after-read-text = after-size .before .before .before in
+    sym (length-take-le _ _ (omega (arith, after-read-text .read-text .ensures, ap sizeOf (after-size .size .given .1))))
 
 slice-aggregate-report-2 : tie.Need-slice-aggregate-report-2
 slice-aggregate-report-2 c = sym (length-take-le _ _ (omega (arith, c .before .before .before .collect .ensures)))

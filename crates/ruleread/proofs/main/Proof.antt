@@ -9,10 +9,14 @@ use Rattle.ruleread.proofs.main.Statement.{statement}
 use Rattle.ruleread.proofs.main.Tie as tie
 
 array-share-prefix-text : tie.Need-array-share-prefix-text
-array-share-prefix-text c = omega (arith, c .before .before .before .before .before .read-text .ensures, ap sizeOf (c .before .before .size .given .1))
+array-share-prefix-text c =
+    let after-read-text = c .before .before .before .before .before in
+    omega (arith, after-read-text .read-text .ensures, ap sizeOf (c .before .before .size .given .1))
 
 slice-aggregate-reading-line-2 : tie.Need-slice-aggregate-reading-line-2
-slice-aggregate-reading-line-2 c = sym (length-take-le _ _ (omega (arith, c .before .before .before .before .before .before .read-text .ensures, ap sizeOf (c .before .before .before .size .given .1))))
+slice-aggregate-reading-line-2 c =
+    let after-read-text = c .before .before .before .before .before .before in
+    sym (length-take-le _ _ (omega (arith, after-read-text .read-text .ensures, ap sizeOf (c .before .before .before .size .given .1))))
 
 array-share-prefix-line : tie.Need-array-share-prefix-line
 array-share-prefix-line c = put-within (c .before .reading-line .ensures)

@@ -101,7 +101,11 @@ rows =
 
 -- by computation, over all rows at once
 rows-computed : map answerOf rows ≡ map expected rows
-unfolding answerOf expected run runEnd part lower equalBy classOf ofClass other doubled quotedTo quotedAt unquotedTo unquotedAt tokenOf startAt tokenAt nextOf tokensBy tokensFrom scanOf countOf durationOf ascii placeOf size after firstPlace expectedWord olderThanStart readableStart atLeastStart functionOf unquotedLeaf primaryStart leftRules chain orIn parseOf readOf leAt allAscii has sum allAtMost wellMade entriesIn isReadable allNames writeOnlyNames readyCount twinOf evict unknownIn checkRule judgeOf durationText textOf digitsOf
+unfolding answerOf expected run runEnd part lower equalBy classOf ofClass other doubled quotedTo quotedAt unquotedTo unquotedAt
+    tokenOf startAt tokenAt nextOf tokensBy tokensFrom scanOf countOf durationOf ascii placeOf size after firstPlace expectedWord
+    olderThanStart readableStart atLeastStart functionOf unquotedLeaf primaryStart leftRules chain orIn parseOf readOf leAt
+    allAscii has sum allAtMost wellMade entriesIn isReadable allNames writeOnlyNames readyCount twinOf evict unknownIn checkRule
+    judgeOf durationText textOf digitsOf
 rows-computed = refl
 
 -- each row holds

@@ -50,7 +50,10 @@ abbrev pub text : List ℕ
 text = bytes "older_than(30d) && readable(1)"
 
 passes : judgeOf text home ≡ Pass
-unfolding run runEnd part lower equalBy classOf ofClass other doubled quotedTo quotedAt unquotedTo unquotedAt tokenOf startAt tokenAt nextOf tokensBy tokensFrom scanOf countOf durationOf ascii placeOf size after firstPlace expectedWord olderThanStart readableStart atLeastStart functionOf unquotedLeaf primaryStart leftRules chain orIn parseOf readOf leAt allAscii has sum allAtMost wellMade entriesIn isReadable allNames writeOnlyNames readyCount twinOf evict unknownIn checkRule judgeOf
+unfolding run runEnd part lower equalBy classOf ofClass other doubled quotedTo quotedAt unquotedTo unquotedAt tokenOf startAt
+    tokenAt nextOf tokensBy tokensFrom scanOf countOf durationOf ascii placeOf size after firstPlace expectedWord olderThanStart
+    readableStart atLeastStart functionOf unquotedLeaf primaryStart leftRules chain orIn parseOf readOf leAt allAscii has sum
+    allAtMost wellMade entriesIn isReadable allNames writeOnlyNames readyCount twinOf evict unknownIn checkRule judgeOf
 passes = refl
 
 -- the text reads as a rule that names only stores of the table, and is safe for it

@@ -83,7 +83,8 @@ written-at-from {a} {b} {s} {e} {v} t q x = let h : s ≡ t = omega arith in rw 
 
 -- what is written after what was written
 pub written-at-after : {a b c : List ℕ} {s p e : ℕ} {v w : List ℕ} → s ≤ length a → WrittenAt a b s p v → WrittenAt b c p e w → WrittenAt a c s e (v ++ w)
-written-at-after {a} {b} {c} {s} {p} {e} {v} {w} h x y = record { ends = rw length-append (omega arith); text = written-then a s h v w p (x .ends) (x .text) (y .text) }
+written-at-after {a} {b} {c} {s} {p} {e} {v} {w} h x y =
+    record { ends = rw length-append (omega arith); text = written-then a s h v w p (x .ends) (x .text) (y .text) }
 
 -- up to the end of what was written: what was before it, and then what was written
 pub written-at-front : {a b : List ℕ} {s e : ℕ} {v : List ℕ} → s ≤ length a → WrittenAt a b s e v → take e b ≡ take s a ++ v

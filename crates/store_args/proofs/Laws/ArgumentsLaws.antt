@@ -31,10 +31,12 @@ named-fits : (mode : ℕ) (name : List ℕ) → mode ≤ writeOnly → Fits (nam
 unfolding named
 named-fits mode name h = go (ltb 255 (length name)) refl (allAscii name) refl
   where
-    go : (v : Bool) → ltb 255 (length name) ≡ v → (w : Bool) → allAscii name ≡ w → Fits (cond v (wrong LongName) (cond w (store (record { mode = mode; name = name })) (wrong ForeignName)))
+    go : (v : Bool) → ltb 255 (length name) ≡ v → (w : Bool) → allAscii name ≡ w →
+        Fits (cond v (wrong LongName) (cond w (store (record { mode = mode; name = name })) (wrong ForeignName)))
     go true p w q = wrong-fits LongName
     go false p false q = wrong-fits ForeignName
-    go false p true q = λ e s. let t : e ≡ record { mode = mode; name = name } = cc in rw t (record { mode = h; short = ltb-false 255 (length name) p; ascii = q })
+    go false p true q = λ e s. let t : e ≡ record { mode = mode; name = name } = cc in
+        rw t (record { mode = h; short = ltb-false 255 (length name) p; ascii = q })
 
 mode-fits : (word name : List ℕ) → Fits (modeTested word name)
 unfolding modeTested

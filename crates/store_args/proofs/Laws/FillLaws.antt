@@ -29,7 +29,9 @@ joined-one (x ∷ es) e = rw (joined-one es e, append-assoc)
 abbrev Room : StoreArrays → ℕ → ℕ → Type 0
 Room a k used = (k < length (a .modes)) × ((k < length (a .lengths)) × (used + 255 ≤ length (a .names)))
 
-hold-on : {es : List Entry} {k used end : ℕ} {a b : StoreArrays} (e : Entry) → Hold es k used a → Room a k used → b .modes ≡ set (a .modes) k (e .mode) → b .lengths ≡ set (a .lengths) k (length (e .name)) → WrittenAt (a .names) (b .names) used end (e .name) → Hold (es ++ (e ∷ [])) (k + 1) end b
+hold-on : {es : List Entry} {k used end : ℕ} {a b : StoreArrays} (e : Entry) → Hold es k used a → Room a k used →
+    b .modes ≡ set (a .modes) k (e .mode) → b .lengths ≡ set (a .lengths) k (length (e .name)) →
+    WrittenAt (a .names) (b .names) used end (e .name) → Hold (es ++ (e ∷ [])) (k + 1) end b
 unfolding modes lengths
 hold-on {k} {a} e h r m l n =
     record {
@@ -86,7 +88,8 @@ module _ {args : List ℕ} {a : StoreArrays} {k at used : ℕ} (f : Filling args
     fill-room l = omega (arith, walk-in (f .walk) h, f .short)
 
     module _ {stop : ℕ} (s : stop ≡ runEnd (other 0) args at) where
-      here : storesIn args ≡ behind (f .es) (before (givenBy (take (stop - at) (drop at args))) (suc k) (storesFrom (suc (suc k)) (argumentsIn (drop (nextArg args at) args))))
+      here : storesIn args
+          ≡ behind (f .es) (before (givenBy (take (stop - at) (drop at args))) (suc k) (storesFrom (suc (suc k)) (argumentsIn (drop (nextArg args at) args))))
       unfolding storesFrom
       here = f .rest ∙ rw (split-on args at h, s)
 
@@ -97,7 +100,8 @@ module _ {args : List ℕ} {a : StoreArrays} {k at used : ℕ} (f : Filling args
             bad = λ i y p. let m : i ≡ k + 1 = cc in let n : y ≡ x = cc in here ∙ rw (q, m, n, add-one);
           }
 
-      pub fill-on : {b : StoreArrays} {r : One} {end next : ℕ} → OneOf (givenBy (take (stop - at) (drop at args))) k used a b r → r ≡ Used end → next ≡ nextArg args at → Room a k used → Filling args b (k + 1) next end
+      pub fill-on : {b : StoreArrays} {r : One} {end next : ℕ} → OneOf (givenBy (take (stop - at) (drop at args))) k used a b r →
+          r ≡ Used end → next ≡ nextArg args at → Room a k used → Filling args b (k + 1) next end
       fill-on {end} o q n room =
           let t = o .used-to end q in
           let p = t .1 .1 .1 .1 in

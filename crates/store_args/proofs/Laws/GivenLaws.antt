@@ -42,7 +42,8 @@ module _ (w : List ℕ) (mode end : ℕ) (h : end ≤ length w) where
 pub is-mode : {w : List ℕ} {r : Given} (name : List ℕ) (from : ℕ) {b₀ b₁ b₂ : Bool} →
     let word = take (length w - from) (drop from w) in
     equal word (bytes "read-write") ≡ b₀ → equal word (bytes "read-only") ≡ b₁ → equal word (bytes "write-only") ≡ b₂ →
-    Is w r (cond b₀ (named readWrite name) (cond b₁ (named readOnly name) (cond b₂ (named writeOnly name) (wrong NoMode)))) → Is w r (modeTested (drop from w) name)
+    Is w r (cond b₀ (named readWrite name) (cond b₁ (named readOnly name) (cond b₂ (named writeOnly name) (wrong NoMode)))) →
+    Is w r (modeTested (drop from w) name)
 unfolding modeTested
 is-mode {w} name from e₀ e₁ e₂ x = rw (← take-all (length w - from) (drop from w) (rw length-drop (omega arith)), e₀, e₁, e₂) x
 
@@ -66,10 +67,13 @@ module _ {w : List ℕ} {r : Given} {g : arguments.Given} (x : Is w r g) (k used
   pub one-wrong : (f : Fault) → r ≡ Wrong f → (a b : StoreArrays) → OneOf g k used a b (Amiss f)
   one-wrong f q a b = record { used-to = λ end p. let z : _≡_ {A = ℕ} 0 1 = cc in absurd (omega arith); bad = λ f′ p. sym (x .same) ∙ rw q (cc) }
 
-  pub one-store : (m e end : ℕ) → r ≡ Store m e → (ms ls : List ℕ) {ns ns′ : List ℕ} → WrittenAt ns ns′ used end (take e w) → OneOf g k used (arrays ms ls ns) (arrays (set ms k m) (set ls k e) ns′) (Used end)
+  pub one-store : (m e end : ℕ) → r ≡ Store m e → (ms ls : List ℕ) {ns ns′ : List ℕ} → WrittenAt ns ns′ used end (take e w) →
+      OneOf g k used (arrays ms ls ns) (arrays (set ms k m) (set ls k e) ns′) (Used end)
   one-store m e end q ms ls p = record {
     used-to = λ to s.
-        let t : end ≡ to = cc in
-        (record { mode = m; name = take e w }, (sym (x .same) ∙ rw q, (refl, (ap (λ n. set ls k n) (sym (length-take-le e w (x .short m e q .1))), rw t at p))));
+        let t : end ≡ to = cc in (
+          record { mode = m; name = take e w },
+          (sym (x .same) ∙ rw q, (refl, (ap (λ n. set ls k n) (sym (length-take-le e w (x .short m e q .1))), rw t at p))),
+        );
     bad = λ f s. let z : _≡_ {A = ℕ} 0 1 = cc in absurd (omega arith);
   }

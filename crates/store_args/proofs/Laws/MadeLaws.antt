@@ -20,7 +20,8 @@ use Rattle.store_args.specs.declared.Filled.the-variants.{Stores as All,
 use Rattle.store_args.specs.declared.Made.the-variants.{Table, Wrong as Bad}
 
 -- the five parts of the table
-parts : {es : List Entry} {count used : ℕ} {a : StoreArrays} → Hold es count used a → leBytes 2 count ++ leBytes 2 used ++ take count (a .modes) ++ take count (a .lengths) ++ take used (a .names) ≡ tableOf es
+parts : {es : List Entry} {count used : ℕ} {a : StoreArrays} → Hold es count used a →
+    leBytes 2 count ++ leBytes 2 used ++ take count (a .modes) ++ take count (a .lengths) ++ take used (a .names) ≡ tableOf es
 unfolding tableOf
 parts {es} h = rw (h .modes, h .lengths, h .names, h .many, h .ends, length-joined, append-assoc (modes es) (lengths es) (joined es))
 
@@ -33,7 +34,10 @@ module _ {s : Stores} {a : StoreArrays} {r : Filled} (f : FilledBy s a r) where
       }
 
   -- the parts follow one another
-  pub made-table : {count used m l n : ℕ} (t : List ℕ) {t₁ t₂ t₃ t₄ t₅ : List ℕ} → r ≡ All count used → t₁ ≡ written t countStart (leBytes 2 count) → t₂ ≡ written t₁ totalStart (leBytes 2 used) → WrittenAt t₂ t₃ modesStart m (take count (a .modes)) → WrittenAt t₃ t₄ m l (take count (a .lengths)) → WrittenAt t₄ t₅ l n (take used (a .names)) → n ≤ length t₅ → MadeOf s t₅ (Table n)
+  pub made-table : {count used m l n : ℕ} (t : List ℕ) {t₁ t₂ t₃ t₄ t₅ : List ℕ} → r ≡ All count used →
+      t₁ ≡ written t countStart (leBytes 2 count) → t₂ ≡ written t₁ totalStart (leBytes 2 used) →
+      WrittenAt t₂ t₃ modesStart m (take count (a .modes)) → WrittenAt t₃ t₄ m l (take count (a .lengths)) →
+      WrittenAt t₄ t₅ l n (take used (a .names)) → n ≤ length t₅ → MadeOf s t₅ (Table n)
   unfolding leBytes
   made-table {count} {used} {n} t {t₁} {t₂} q e₁ e₂ p₃ p₄ p₅ h =
       let w = f .filled count used q in
@@ -47,7 +51,8 @@ module _ {s : Stores} {a : StoreArrays} {r : Filled} (f : FilledBy s a r) where
       }
 
 -- a table and its arrays have room for 64 stores
-pub made-room : (args : List ℕ) {a : StoreArrays} {r : Filled} {count used : ℕ} → FilledBy (storesIn args) a r → r ≡ All count used → length (argumentsIn args) ≤ 64 → (count ≤ 64) × (used ≤ 16_320)
+pub made-room : (args : List ℕ) {a : StoreArrays} {r : Filled} {count used : ℕ} → FilledBy (storesIn args) a r →
+    r ≡ All count used → length (argumentsIn args) ≤ 64 → (count ≤ 64) × (used ≤ 16_320)
 made-room args {a} {r} {count} {used} f q h =
     let t = f .filled count used q in
     let es = t .0 in

@@ -19,13 +19,15 @@ returns-3 : tie.Need-returns-3
 returns-3 c =
     let f = c .before .before .before .before in
     let e = f .before .before .before in
-    is-mode _ _ (sym (e .before .eq .ensures) ∙ e .if1 .left) (sym (f .before .eq2 .ensures) ∙ f .if2 .left) (sym (c .before .before .eq3 .ensures) ∙ c .before .if3 .taken) (c .name-tested3 .ensures)
+    is-mode _ _ (sym (e .before .eq .ensures) ∙ e .if1 .left) (sym (f .before .eq2 .ensures) ∙ f .if2 .left)
+    (sym (c .before .before .eq3 .ensures) ∙ c .before .if3 .taken) (c .name-tested3 .ensures)
 
 returns-4 : tie.Need-returns-4
 returns-4 c =
     let f = c .before .before .before in
     let e = f .before .before .before in
-    is-mode _ _ (sym (e .before .eq .ensures) ∙ e .if1 .left) (sym (f .before .eq2 .ensures) ∙ f .if2 .left) (sym (c .before .eq3 .ensures) ∙ c .if3 .left) (is-wrong NoMode refl)
+    is-mode _ _ (sym (e .before .eq .ensures) ∙ e .if1 .left) (sym (f .before .eq2 .ensures) ∙ f .if2 .left)
+    (sym (c .before .eq3 .ensures) ∙ c .if3 .left) (is-wrong NoMode refl)
 
 pub mode-tested-spec : {M : Type 1} → statement M
 mode-tested-spec =

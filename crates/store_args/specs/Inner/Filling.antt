@@ -43,7 +43,10 @@ arrays ms ls ns = record { modes = ms; lengths = ls; names = ns }
 
 -- one store more is in the arrays, at index k, its name up to where the answer says
 pub record OneOf (g : arguments.Given) (k used : ℕ) (a b : StoreArrays) (r : One) : Type 0 where
-  pub used-to : (end : ℕ) → r ≡ Used end → (e : Entry) × ((g ≡ arguments.store e) × ((b .modes ≡ set (a .modes) k (e .mode)) × ((b .lengths ≡ set (a .lengths) k (length (e .name))) × WrittenAt (a .names) (b .names) used end (e .name))))
+  pub used-to : (end : ℕ) → r ≡ Used end →
+      (e : Entry)
+      × ((g ≡ arguments.store e)
+      × ((b .modes ≡ set (a .modes) k (e .mode)) × ((b .lengths ≡ set (a .lengths) k (length (e .name))) × WrittenAt (a .names) (b .names) used end (e .name))))
   pub bad : (f : Fault) → r ≡ Amiss f → g ≡ arguments.wrong f
 
 -- the arrays hold the stores

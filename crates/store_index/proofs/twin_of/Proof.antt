@@ -22,13 +22,20 @@ abbrev μ-loop : tie.MeasureT-loop
 μ-loop stores starts₀ slots₀ count k₀ at₀ starts slots k at = count - k
 
 -- the name of store k lies within the bytes
-inside : (c : tie.After-length-at Inv-loop μ-loop) → c .before .before .loop .at + c .length-at .result ≤ length (c .before .before .before .before .before .before .args .stores .now)
+inside : (c : tie.After-length-at Inv-loop μ-loop) →
+    let entry = c .before .before .before .before .before .before in
+    c .before .before .loop .at + c .length-at .result ≤ length (entry .args .stores .now)
 inside c = omega (arith, standing-within (c .before .before .loop .inv .0) (c .before .loop-test .taken) (c .length-at .ensures .0))
 
 loop-holds : tie.Need-loop-holds Inv-loop μ-loop
 loop-holds c =
-    let p = c .before .before .before .pre in
-    (rw (c .names-start .ensures) (standing-start _ _ (p .0) (c .before .count-of .ensures .0)), seen-start _, indexed-start _ _ _ (p .1), omega arith, omega arith)
+    let p = c .before .before .before .pre in (
+      rw (c .names-start .ensures) (standing-start _ _ (p .0) (c .before .count-of .ensures .0)),
+      seen-start _,
+      indexed-start _ _ _ (p .1),
+      omega arith,
+      omega arith,
+    )
 
 length-at-requires : tie.Need-length-at-requires Inv-loop μ-loop
 length-at-requires c κs = let l = c .before .loop in (l .inv .0 .laid, (l .inv .0 .counted, omega arith))
@@ -47,9 +54,9 @@ find-by-requires c κs =
 
 returns : tie.Need-returns Inv-loop μ-loop
 returns c =
-    let w = c .before .before .before .before .before .before .before in
-    let l = w .before .before .loop in
-    let e = standing-here (l .inv .0) (w .before .loop-test .taken) (w .length-at .ensures .0) in
+    let after-length-at = c .before .before .before .before .before .before .before in
+    let l = after-length-at .before .before .loop in
+    let e = standing-here (l .inv .0) (after-length-at .before .loop-test .taken) (after-length-at .length-at .ensures .0) in
     let f = c .before .before .find-by .ensures .there _ (c .enum-told .given .1) in
     (seen-yes (l .inv .1) e (rw (same-eq _ _ (f .1 .1 .1)) (has-at _ _ _ (f .0) (f .1 .1 .0))), λ z. absurd (let o : _≡_ {A = ℕ} 0 1 = cc in omega arith))
 
@@ -59,28 +66,33 @@ enter-requires c κs =
     ((omega (arith, c .before .enter-arg .given .0 .1), omega (arith, c .enter-arg2 .given .0 .1)), (omega arith, omega arith))
 
 add-at : tie.Need-add-at Inv-loop μ-loop
-add-at c = omega (arith, inside (c .before .before .before .before .before .before .before .before .before .before))
+add-at c =
+    let after-length-at = c .before .before .before .before .before .before .before .before .before .before in
+    omega (arith, inside after-length-at)
 
 loop-again : tie.Need-loop-again Inv-loop μ-loop
 loop-again c =
-    let w = c .before .before .before .before .before .before .before .before .before .before in
-    let l = w .before .before .loop in
-    let lt = w .before .loop-test .taken in
-    let e = standing-here (l .inv .0) lt (w .length-at .ensures .0) in
-    let h = c .before .before .before .before .before .before .before .before in
-    let f = c .before .before .before .before .before .find-by .ensures .missing (c .before .before .before .enum-told2 .given .1) in (
-      standing-next (l .inv .0) lt (w .length-at .ensures .0),
+    let after-find-by = c .before .before .before .before .before in
+    let after-hash-of = after-find-by .before .before .before in
+    let after-length-at = after-hash-of .before .before in
+    let l = after-length-at .before .before .loop in
+    let lt = after-length-at .before .loop-test .taken in
+    let e = standing-here (l .inv .0) lt (after-length-at .length-at .ensures .0) in
+    let f = after-find-by .find-by .ensures .missing (c .before .before .before .enum-told2 .given .1) in (
+      standing-next (l .inv .0) lt (after-length-at .length-at .ensures .0),
       seen-no (l .inv .1) e f,
-      rw (c .enter .ensures .0, c .enter .ensures .1) (indexed-next (l .inv .2) (l .inv .0) e (h .hash-of .ensures .0) (omega (arith, c .before .before .enter-arg .given .0 .1)) (omega (arith, c .before .enter-arg2 .given .0 .1))),
+      rw (c .enter .ensures .0, c .enter .ensures .1)
+          (indexed-next (l .inv .2) (l .inv .0) e (after-hash-of .hash-of .ensures .0)
+          (omega (arith, c .before .before .enter-arg .given .0 .1)) (omega (arith, c .before .enter-arg2 .given .0 .1))),
       omega arith,
       omega arith,
     )
 
 returns-2 : tie.Need-returns-2 Inv-loop μ-loop
 returns-2 c =
-    let s = c .before .before .before .before .before in
-    let q : c .before .loop .k ≡ countIn (s .args .stores .now) = omega arith in
-    (seen-end (c .before .loop .inv .1) (omega (arith, length-entries (s .args .stores .now) (s .pre .0))), λ z. rw q at (c .before .loop .inv .2))
+    let entry = c .before .before .before .before .before in
+    let q : c .before .loop .k ≡ countIn (entry .args .stores .now) = omega arith in
+    (seen-end (c .before .loop .inv .1) (omega (arith, length-entries (entry .args .stores .now) (entry .pre .0))), λ z. rw q at (c .before .loop .inv .2))
 
 pub twin-of-spec : {M : Type 1} → statement M
 twin-of-spec =

@@ -103,7 +103,8 @@ module _ (seen : List (List ℕ)) (i : ℕ) (x : Entry) (es : List Entry) (t : t
   apart : (y : Entry) → List·Memᴰ y es → y .name ≡ x .name → ⊥
   apart y m e = true≢false (sym (mem-has (List·Memᴰ·head {xs = seen} e)) ∙ unseen (x .name ∷ seen) (suc i) es later y m)
 
-one-from : (seen : List (List ℕ)) (i : ℕ) (es : List Entry) → twinFrom seen i es ≡ No → (e f : Entry) → List·Memᴰ e es → List·Memᴰ f es → e .name ≡ f .name → e ≡ f
+one-from : (seen : List (List ℕ)) (i : ℕ) (es : List Entry) → twinFrom seen i es ≡ No → (e f : Entry) → List·Memᴰ e es →
+    List·Memᴰ f es → e .name ≡ f .name → e ≡ f
 one-from seen i [] t e f m k n = absurd (List·Memᴰ·not-nil m)
 one-from seen i (x ∷ es) t e f m k n = go (λ l j. one-from (x .name ∷ seen) (suc i) es (later seen i x es t) e f l j n) m k
   where
@@ -118,14 +119,16 @@ unfolding twinOf
 one-of-name es t = one-from [] 0 es t
 
 -- nor is one name at two indices
-place-from : (seen : List (List ℕ)) (i : ℕ) (es : List Entry) → twinFrom seen i es ≡ No → (k j : ℕ) {x y : Entry} {xs ys : List Entry} → drop k es ≡ x ∷ xs → drop j es ≡ y ∷ ys → x .name ≡ y .name → k ≡ j
+place-from : (seen : List (List ℕ)) (i : ℕ) (es : List Entry) → twinFrom seen i es ≡ No →
+    (k j : ℕ) {x y : Entry} {xs ys : List Entry} → drop k es ≡ x ∷ xs → drop j es ≡ y ∷ ys → x .name ≡ y .name → k ≡ j
 place-from seen i [] t k j p q n = absurd (let z : _≡_ {A = ℕ} 0 1 = cc (drop-nil {A = Entry} k) in omega arith)
 place-from seen i (z ∷ es) t zero zero p q n = refl
 place-from seen i (z ∷ es) t zero (suc j) {x} {y} p q n = absurd (apart seen i z es t y (at-mem es j q) (cc))
 place-from seen i (z ∷ es) t (suc k) zero {x} p q n = absurd (apart seen i z es t x (at-mem es k p) (cc))
 place-from seen i (z ∷ es) t (suc k) (suc j) p q n = ap suc (place-from (z .name ∷ seen) (suc i) es (later seen i z es t) k j p q n)
 
-pub one-place : (es : List Entry) → twinOf es ≡ No → (k j : ℕ) {x y : Entry} {xs ys : List Entry} → drop k es ≡ x ∷ xs → drop j es ≡ y ∷ ys → x .name ≡ y .name → k ≡ j
+pub one-place : (es : List Entry) → twinOf es ≡ No → (k j : ℕ) {x y : Entry} {xs ys : List Entry} → drop k es ≡ x ∷ xs →
+    drop j es ≡ y ∷ ys → x .name ≡ y .name → k ≡ j
 unfolding twinOf
 one-place es t = place-from [] 0 es t
 
@@ -141,12 +144,15 @@ unfolding readyCount
 ready-or-none [] ns = inr (refl, λ e m. absurd (List·Memᴰ·not-nil m))
 ready-or-none (x ∷ es) ns = go (isReadable (x .mode)) (has (x .name) ns) refl refl (ready-or-none es ns)
   where
-    each : (isReadable (x .mode) ≡ true → has (x .name) ns ≡ false) → NoneReady es ns → (e : Entry) → List·Memᴰ e (x ∷ es) → isReadable (e .mode) ≡ true → has (e .name) ns ≡ false
+    each : (isReadable (x .mode) ≡ true → has (x .name) ns ≡ false) → NoneReady es ns → (e : Entry) → List·Memᴰ e (x ∷ es) →
+        isReadable (e .mode) ≡ true → has (e .name) ns ≡ false
     each f n e (List·Memᴰ·head p) r = rw p (f (rw p at r))
     each f n e (List·Memᴰ·tail m) r = n .1 e m r
 
     go : (r h : Bool) → isReadable (x .mode) ≡ r → has (x .name) ns ≡ h → OneReady es ns ⊎ NoneReady es ns →
-        OneReady (x ∷ es) ns ⊎ ((cond (r && h) (suc (readyCount es ns)) (readyCount es ns) ≡ 0) × ((e : Entry) → List·Memᴰ e (x ∷ es) → isReadable (e .mode) ≡ true → has (e .name) ns ≡ false))
+        OneReady (x ∷ es) ns
+        ⊎ ((cond (r && h) (suc (readyCount es ns)) (readyCount es ns) ≡ 0)
+        × ((e : Entry) → List·Memᴰ e (x ∷ es) → isReadable (e .mode) ≡ true → has (e .name) ns ≡ false))
     go true true p q below = inl (x, List·Memᴰ·head refl, p, q)
     go true false p q (inl (e, m, a, b)) = inl (e, List·Memᴰ·tail m, a, b)
     go true false p q (inr n) = inr (n .0, each (λ y. q) n)
@@ -166,14 +172,16 @@ pub entry-mode : (most : ℕ) (s : List ℕ) → wellMade most s ≡ true → (e
 unfolding entriesIn
 entry-mode most s h = mode-from most (modesIn s) (lengthsIn s) (nameBytesIn s) (made most s h .modes)
 
-name-from : (ms ls bs : List ℕ) → AllBytes ls → allAscii bs ≡ true → (e : Entry) → List·Memᴰ e (entriesFrom ms ls bs) → (length (e .name) ≤ 255) × (allAscii (e .name) ≡ true)
+name-from : (ms ls bs : List ℕ) → AllBytes ls → allAscii bs ≡ true → (e : Entry) → List·Memᴰ e (entriesFrom ms ls bs) →
+    (length (e .name) ≤ 255) × (allAscii (e .name) ≡ true)
 unfolding entriesFrom
 name-from [] ls bs b a e m = absurd (List·Memᴰ·not-nil m)
 name-from (m ∷ ms) [] bs b a e k = absurd (List·Memᴰ·not-nil k)
 name-from (m ∷ ms) (l ∷ ls) bs b a e (List·Memᴰ·head p) = rw p (omega (arith, length-take l bs, b 0), take-ascii l bs a)
 name-from (m ∷ ms) (l ∷ ls) bs b a e (List·Memᴰ·tail k) = name-from ms ls (drop l bs) (λ i. b (suc i)) (drop-ascii l bs a) e k
 
-pub entry-name : (most : ℕ) (s : List ℕ) → AllBytes s → wellMade most s ≡ true → (e : Entry) → List·Memᴰ e (entriesIn s) → (length (e .name) ≤ 255) × (allAscii (e .name) ≡ true)
+pub entry-name : (most : ℕ) (s : List ℕ) → AllBytes s → wellMade most s ≡ true → (e : Entry) → List·Memᴰ e (entriesIn s) →
+    (length (e .name) ≤ 255) × (allAscii (e .name) ≡ true)
 unfolding entriesIn
 entry-name most s b h =
     name-from (modesIn s) (lengthsIn s) (nameBytesIn s) (bytes-at s (lengthsStart (countIn s)) (countIn s) b) (made most s h .ascii)

@@ -45,7 +45,8 @@ module _ {s starts slots : List ℕ} {k : ℕ} (h : Indexed s k starts slots) wh
   slot-empty w z = not-eq-not .0 (λ p. h .filled w p z)
 
   -- one entry more, x, whose name begins at `at`
-  module _ {count at hash : ℕ} {x : Entry} (st : EntryWalk s count k at) (e : EntryAt (entriesIn s) k x) (q : hash ≡ hashOf (x .name)) (room : k < length starts) (slot : hash < length slots) where
+  module _ {count at hash : ℕ} {x : Entry} (st : EntryWalk s count k at) (e : EntryAt (entriesIn s) k x)
+      (q : hash ≡ hashOf (x .name)) (room : k < length starts) (slot : hash < length slots) where
     pub indexed-next : Indexed s (k + 1) (set starts k at) (set slots hash (k + 1))
     indexed-next =
         record {

@@ -16,7 +16,8 @@ unfolding plain allNames
 names-back [] = refl
 names-back (w ∷ ns) = rw (names-back ns)
 
-pub list-of : (ns : List (List ℕ)) → length ns ≤ 64 → ((w : List ℕ) → List·Memᴰ w ns → (length w ≤ 255) × (allAscii w ≡ true)) → AllBytes (listOf ns) × (isList (listOf ns) ≡ true) × (allNames (entriesIn (listOf ns)) ≡ ns)
+pub list-of : (ns : List (List ℕ)) → length ns ≤ 64 → ((w : List ℕ) → List·Memᴰ w ns → (length w ≤ 255) × (allAscii w ≡ true)) →
+    AllBytes (listOf ns) × (isList (listOf ns) ≡ true) × (allNames (entriesIn (listOf ns)) ≡ ns)
 unfolding listOf plain
 list-of ns few fit =
     let (b, m, e) = table-of readWrite (plain ns) (omega arith) (rw length-map few) fits in

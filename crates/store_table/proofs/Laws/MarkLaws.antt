@@ -31,7 +31,8 @@ module _ (s : List ℕ) (fs : List Entry) (j : ℕ) (marks : List ℕ) (h : Mark
       rw (has-next fs j f (x .name), d) (h k x e)
 
   -- store i has y's name
-  pub marked-found : twinOf (entriesIn s) ≡ No → (i : ℕ) {z : Entry} → EntryAt (entriesIn s) i z → sameName (y .name) (z .name) ≡ true → i < length marks → Marked (entriesIn s) (allNames (take (j + 1) fs)) (set marks i 1)
+  pub marked-found : twinOf (entriesIn s) ≡ No → (i : ℕ) {z : Entry} → EntryAt (entriesIn s) i z →
+      sameName (y .name) (z .name) ≡ true → i < length marks → Marked (entriesIn s) (allNames (take (j + 1) fs)) (set marks i 1)
   marked-found t i {z} g p lt k x e =
       let q = same-eq (y .name) (z .name) p in
       after-set (λ v. leb 1 v ≡ has (x .name) (allNames (take (j + 1) fs))) marks i 1 k lt
@@ -39,7 +40,8 @@ module _ (s : List ℕ) (fs : List Entry) (j : ℕ) (marks : List ℕ) (h : Mark
       (λ n. other k x e (λ u. n (one-place (entriesIn s) t k i e g (u ∙ q))))
 
   -- no store has it
-  pub marked-none : TableInBounds s → has (y .name) (allNames (take (countIn s) (entriesIn s))) ≡ false → Marked (entriesIn s) (allNames (take (j + 1) fs)) marks
+  pub marked-none : TableInBounds s → has (y .name) (allNames (take (countIn s) (entriesIn s))) ≡ false →
+      Marked (entriesIn s) (allNames (take (j + 1) fs)) marks
   marked-none l p k x e =
       other k x e
       (λ u. true≢false (sym (rw u at (has-at (entriesIn s) (countIn s) k (omega (arith, at-below (entriesIn s) k e, length-entries s l)) e)) ∙ p))

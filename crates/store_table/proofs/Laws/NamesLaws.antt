@@ -19,6 +19,7 @@ has-last w n (m ∷ ns) = rw (has-last w n ns) (swap (sameName w m) (sameName w 
     swap false b = refl
 
 -- one entry more has one name more
-pub has-next : (es : List Entry) (k : ℕ) {x : Entry} → drop k es ≡ x ∷ drop (k + 1) es → (w : List ℕ) → has w (allNames (take (k + 1) es)) ≡ (sameName w (x .name) || has w (allNames (take k es)))
+pub has-next : (es : List Entry) (k : ℕ) {x : Entry} → drop k es ≡ x ∷ drop (k + 1) es → (w : List ℕ) →
+    has w (allNames (take (k + 1) es)) ≡ (sameName w (x .name) || has w (allNames (take k es)))
 unfolding has allNames
 has-next es k {x} e w = rw (take-add k 1 es, e, map-append, has-last)

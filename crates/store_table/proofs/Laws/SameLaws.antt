@@ -29,5 +29,6 @@ module _ (at k : ℕ) where
   number-first s b fits =
       sym (take-append-drop k (drop at s)) ∙ rw (drop-drop, rw (length-leBytes k (leAt s at k)) at (at-number s at k b fits))
 
-  pub same-number : (a b : List ℕ) → AllBytes a → AllBytes b → at + k ≤ length a → at + k ≤ length b → leAt a at k ≡ leAt b at k → sameName (drop at a) (drop at b) ≡ sameName (drop (at + k) a) (drop (at + k) b)
+  pub same-number : (a b : List ℕ) → AllBytes a → AllBytes b → at + k ≤ length a → at + k ≤ length b → leAt a at k ≡ leAt b at k →
+      sameName (drop at a) (drop at b) ≡ sameName (drop (at + k) a) (drop (at + k) b)
   same-number a b p q f g e = rw (number-first a p f, number-first b q g, e) (same-after-prefix (leBytes k (leAt b at k)) _ _)

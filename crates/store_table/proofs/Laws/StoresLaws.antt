@@ -35,9 +35,20 @@ module _ (most : ℕ) (s : List ℕ) (count total : ℕ) (p : count ≡ leAt s c
   unfolding wellMade
   unmade-modes h = rw (← p, ← q, h, and-false)
 
-  pub made-names : modesStart ≤ length s → count ≤ 64 → length s ≡ namesStart count + total → sum (take count (drop (lengthsStart count) s)) ≡ total → allAtMost most (take count (drop modesStart s)) ≡ true → allAscii (drop (namesStart count) s) ≡ wellMade most s
+  pub made-names : modesStart ≤ length s → count ≤ 64 → length s ≡ namesStart count + total →
+      sum (take count (drop (lengthsStart count) s)) ≡ total → allAtMost most (take count (drop modesStart s)) ≡ true →
+      allAscii (drop (namesStart count) s) ≡ wellMade most s
   unfolding wellMade
-  made-names h₁ h₂ h₃ h₄ h₅ = rw (← p, ← q, le-leb modesStart (length s) h₁, le-leb count 64 h₂, eq-eqb (length s) (namesStart count + total) h₃, eq-eqb (sum (take count (drop (lengthsStart count) s))) total h₄, h₅)
+  made-names h₁ h₂ h₃ h₄ h₅ =
+      rw (
+        ← p,
+        ← q,
+        le-leb modesStart (length s) h₁,
+        le-leb count 64 h₂,
+        eq-eqb (length s) (namesStart count + total) h₃,
+        eq-eqb (sum (take count (drop (lengthsStart count) s))) total h₄,
+        h₅,
+      )
 
 -- ---- what the tests say of a well-made table or list
 pub record Made (most : ℕ) (s : List ℕ) : Type 0 where

@@ -113,7 +113,8 @@ module _ (most : ℕ) (es : List Entry) (low : most ≤ 255) (few : length es �
 
   well-made : wellMade most (tableOf es) ≡ true
   well-made =
-      sym (made-names most (tableOf es) (length es) (sum (lengths es)) (sym count-read) (sym total-read) (omega (arith, table-length es)) few (table-length es) (rw lengths-read) (rw modes-read (modes-most es fit)))
+      sym (made-names most (tableOf es) (length es) (sum (lengths es)) (sym count-read) (sym total-read)
+      (omega (arith, table-length es)) few (table-length es) (rw lengths-read) (rw modes-read (modes-most es fit)))
       ∙ rw names-read (joined-ascii es fit)
 
   entries-in : entriesIn (tableOf es) ≡ es

@@ -22,7 +22,9 @@ length-from n (m ∷ ms) (l ∷ ls) bs p q =
 
 pub length-entries : (s : List ℕ) → TableInBounds s → length (entriesIn s) ≡ countIn s
 unfolding entriesIn
-length-entries s h = length-from (countIn s) (modesIn s) (lengthsIn s) _ (length-take-le _ _ (simp length-drop (omega arith))) (length-take-le _ _ (simp length-drop (omega arith)))
+length-entries s h =
+    length-from (countIn s) (modesIn s) (lengthsIn s) _ (length-take-le _ _ (simp length-drop (omega arith)))
+    (length-take-le _ _ (simp length-drop (omega arith)))
 
 pub entries-all : (s : List ℕ) (count : ℕ) → TableInBounds s → count ≡ countIn s → take count (entriesIn s) ≡ entriesIn s
 entries-all s count h e = take-all count (entriesIn s) (omega (arith, length-entries s h))
@@ -65,7 +67,15 @@ module _ {s : List ℕ} {count k at : ℕ} (h : EntryWalk s count k at) (lt : k 
   unfolding entriesFrom
   rest-on =
       let p : at + len - at ≡ len = omega arith in
-      h .rest ∙ rw (p, length-at, part-get s modesStart (countIn s) k (omega arith) (omega arith), part-at s modesStart (countIn s) k (omega arith) (omega arith), part-at s (lengthsStart (countIn s)) (countIn s) k (omega arith) (omega arith), drop-drop)
+      h .rest
+      ∙ rw (
+        p,
+        length-at,
+        part-get s modesStart (countIn s) k (omega arith) (omega arith),
+        part-at s modesStart (countIn s) k (omega arith) (omega arith),
+        part-at s (lengthsStart (countIn s)) (countIn s) k (omega arith) (omega arith),
+        drop-drop,
+      )
 
   pub standing-within : at + len + sum (drop (k + 1) (lengthsIn s)) ≤ length s
   standing-within = omega (arith, length-at, sum-on s (lengthsStart (countIn s)) (countIn s) k (omega arith) (omega arith))

@@ -31,8 +31,11 @@ loop-again : tie.Need-loop-again Inv-loop μ-loop
 loop-again c =
     let l = c .before .before .before .before in
     let s = l .before .before in
-    let e = sym (c .before .before .read-u64 .ensures) ∙ c .if2 .left ∙ c .before .read-u642 .ensures in
-    (omega arith, sym (same-number (l .loop .i) 8 _ _ (λ j. omega (arith, s .before .shared-slice-known .given j)) (λ j. omega (arith, s .shared-slice-known2 .given j)) (omega arith) (omega arith) e) ∙ l .loop .inv .1)
+    let e = sym (c .before .before .read-u64 .ensures) ∙ c .if2 .left ∙ c .before .read-u642 .ensures in (
+      omega arith,
+      sym (same-number (l .loop .i) 8 _ _ (λ j. omega (arith, s .before .shared-slice-known .given j))
+          (λ j. omega (arith, s .shared-slice-known2 .given j)) (omega arith) (omega arith) e) ∙ l .loop .inv .1,
+    )
 
 returns-3 : tie.Need-returns-3 Inv-loop μ-loop
 returns-3 c = c .same-from .ensures ∙ c .before .before .loop .inv .1

@@ -14,17 +14,21 @@ returns-2 : tie.Need-returns-2
 returns-2 c = unmade-many _ _ _ _ (c .before .before .read-u16 .ensures .0) (c .before .read-u162 .ensures .0) (omega arith)
 
 returns-3 : tie.Need-returns-3
-returns-3 c = let v = c .before .before .before in unmade-length _ _ _ _ (v .before .read-u16 .ensures .0) (v .read-u162 .ensures .0) (λ e. c .if3 .taken (omega (arith, c .before .names-start .ensures)))
+returns-3 c =
+    let v = c .before .before .before in
+    unmade-length _ _ _ _ (v .before .read-u16 .ensures .0) (v .read-u162 .ensures .0) (λ e. c .if3 .taken (omega (arith, c .before .names-start .ensures)))
 
 returns-4 : tie.Need-returns-4
 returns-4 c =
-    let v = c .before .before .before .before .before in
-    unmade-sum _ _ _ _ (v .before .read-u16 .ensures .0) (v .read-u162 .ensures .0) (λ e. c .if4 .taken (c .before .sum-from .ensures ∙ e))
+    let after-read-u162 = c .before .before .before .before .before in
+    unmade-sum _ _ _ _ (after-read-u162 .before .read-u16 .ensures .0) (after-read-u162 .read-u162 .ensures .0)
+    (λ e. c .if4 .taken (c .before .sum-from .ensures ∙ e))
 
 returns-5 : tie.Need-returns-5
 returns-5 c =
-    let v = c .before .before .before .before .before .before .before in
-    unmade-modes _ _ _ _ (v .before .read-u16 .ensures .0) (v .read-u162 .ensures .0) (sym (c .before .all-at-most .ensures) ∙ not-true _ (c .if5 .taken))
+    let after-read-u162 = c .before .before .before .before .before .before .before in
+    unmade-modes _ _ _ _ (after-read-u162 .before .read-u16 .ensures .0) (after-read-u162 .read-u162 .ensures .0)
+    (sym (c .before .all-at-most .ensures) ∙ not-true _ (c .if5 .taken))
 
 returns-6 : tie.Need-returns-6
 returns-6 c =
@@ -33,7 +37,10 @@ returns-6 c =
     let v = a .before .before .before in
     let fill = sym (t .before .before .before .sum-from .ensures) ∙ t .before .before .if4 .left in
     let allow = sym (t .before .all-at-most .ensures) ∙ not-false _ (t .if5 .left) in
-    c .ascii-from .ensures ∙ rw (c .before .names-start2 .ensures) (made-names _ _ _ _ (v .before .read-u16 .ensures .0) (v .read-u162 .ensures .0) (omega arith) (omega arith) (omega (arith, a .before .names-start .ensures, a .if3 .left)) fill allow)
+    c .ascii-from .ensures
+    ∙ rw (c .before .names-start2 .ensures)
+    (made-names _ _ _ _ (v .before .read-u16 .ensures .0) (v .read-u162 .ensures .0) (omega arith) (omega arith)
+    (omega (arith, a .before .names-start .ensures, a .if3 .left)) fill allow)
 
 pub well-made-spec : {M : Type 1} → statement M
 well-made-spec =

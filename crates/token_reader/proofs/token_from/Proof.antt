@@ -39,21 +39,27 @@ token-from-spec 𝓤 H 𝓜 𝓖 𝓡 =
     move ! (13 ∷ []) $ fsplit ! $ nothing ! $ move ! (1 ∷ 0 ∷ []) $ fjoin ! $ move ! (14 ∷ []) $
     use1 W (‵ (flft (κs .0) (qs .0)) ⊛ ‵ (flft (κs .1 .0) (qs .1 .0)) ⊛ ‵ ftrue) (id⊢ 𝓤 _) $ split ! $ nothing ! $ move ! (1 ∷ 0 ∷ []) $
     use2 W (raw (toks 𝓤 (𝓖 .A) 1 (κs .0, tt) (qs .0, tt))) (id⊢ 𝓤 _) $ move ! (0 ∷ 2 ∷ []) $
-    -- [the text's token; what `new` is passed; the table's token; what the number and the table own; room for _5; …; room for _4; …; _3; …; _2; …; _1; …; room for _0; …]
+    -- [the text's token; what `new` is passed; the table's token; what the number and the table own; room for _5; …; room for _4;
+    -- …; _3; …; _2; …; _1; …; room for _0; …]
     asks 𝓜 𝓖 𝓡 code.env ! new.ended (new.clauses 𝓤 H (𝓖 .A) (𝓜 .mem) (𝓡 .run)) code.calls-token-reader·WordReader·new (new-thm.met 𝓤 H 𝓜 𝓖 𝓡)
     (((κs .0, tt), (qs .0, tt), tt, (a .0, tt), _), tt) (id⊢ 𝓤 _) (and-then ! (copies ! 11 refl) (no-more !)) (λ u r e is. heard ! _ (λ h.
     land ! (from ! (stop !)) (init ! 4 refl (reader α .lawful 𝓤 H (𝓖 .A) W .typed r _ is .0)) $
     move ! (3 ∷ []) $ fsplit ! $ nothing ! $ move ! (1 ∷ 0 ∷ []) $ fjoin ! $ move ! (2 ∷ 0 ∷ []) $ fjoin ! $ move ! (2 ∷ 0 ∷ []) $
     -- [the text's token; what `moved` is passed; what the table owns; the table's token; _5; …; room for _4; …; _3; …; _2; …; _1; …; room for _0; …]
     asks 𝓜 𝓖 𝓡 code.env ! moved.ended (moved.clauses 𝓤 H (𝓖 .A) (𝓜 .mem) (𝓡 .run)) code.calls-token-reader·WordReader·moved (moved-thm.met 𝓤 H 𝓜 𝓖 𝓡)
-    (((κs .0, tt), (qs .0, tt), tt, (r, (a .1 .0, tt)), _), tt) (id⊢ 𝓤 _) (and-then ! (copies ! 3 refl) (and-then ! (copies ! 9 refl) (no-more !))) (λ u₁ r₁ e₁ is₁. heard ! _ (λ h₁.
+    (((κs .0, tt), (qs .0, tt), tt, (r, (a .1 .0, tt)), _), tt) (id⊢ 𝓤 _)
+    (and-then ! (copies ! 3 refl) (and-then ! (copies ! 9 refl) (no-more !))) (λ u₁ r₁ e₁ is₁. heard ! _ (λ h₁.
     land ! (from ! (stop !)) (init ! 6 refl (reader α .lawful 𝓤 H (𝓖 .A) W .typed r₁ _ is₁ .0)) $
     move ! (0 ∷ 2 ∷ []) $ fjoin ! $ move ! (1 ∷ []) $ use1 W (‵ (flft (κs .0) (qs .0)) ⊛ ‵ ftrue) (id⊢ 𝓤 _) $ split ! $
     move ! (0 ∷ 3 ∷ []) $ use2 W (raw (toks 𝓤 (𝓖 .A) 2 κs qs)) (id⊢ 𝓤 _) $ move ! (1 ∷ []) $ drop ! $
     -- [the tokens; what `peek` is passed; _5; …; _4; …; _3; …; _2; …; _1; …; room for _0; …]
     asks 𝓜 𝓖 𝓡 code.env ! peek.ended (peek.clauses 𝓤 H (𝓖 .A) (𝓜 .mem) (𝓡 .run)) code.calls-token-reader·WordReader·peek (peek-thm.met 𝓤 H 𝓜 𝓖 𝓡)
-    ((κs, qs, tt, (r₁, a .1 .1), _), tt) (factI 𝓤 _ (emp 𝓤) ok) (and-then ! (copies ! 3 refl) (and-then ! (copies ! 5 refl) (no-more !))) (λ u₂ t e₂ is₂. heard ! _ (λ h₂.
+    ((κs, qs, tt, (r₁, a .1 .1), _), tt) (factI 𝓤 _ (emp 𝓤) ok)
+    (and-then ! (copies ! 3 refl) (and-then ! (copies ! 5 refl) (no-more !))) (λ u₂ t e₂ is₂. heard ! _ (λ h₂.
     land ! (from ! (stop !)) (init ! 12 refl (token .lawful 𝓤 H (𝓖 .A) W .typed t _ is₂ .0)) $
-    returns ! (look ! 12 refl) $ forget ! 2 refl $ forget ! 4 refl $ forget ! 6 refl $ forget ! 8 refl $ forget ! 10 refl $ forget ! 12 refl $ move ! (12 ∷ 13 ∷ []) $ free1 ! $
-    move ! (10 ∷ 11 ∷ []) $ free1 ! $ move ! (8 ∷ 9 ∷ []) $ free1 ! $ move ! (6 ∷ 7 ∷ []) $ free1 ! $ move ! (4 ∷ 5 ∷ []) $ free1 ! $ move ! (2 ∷ 3 ∷ []) $ free1 ! $ free0 ! $
-    ends t _ _ _ (factI 𝓤 _ (emp 𝓤) (h₂ ∙ ap (λ (x : RefT (List ℕ)). tokenAt (now x) (r₁ .pos)) (h₁ .0 ∙ h .0) ∙ ap (tokenAt (now (a .0))) (h₁ .1)))))))))))))))))
+    returns ! (look ! 12 refl) $ forget ! 2 refl $ forget ! 4 refl $ forget ! 6 refl $ forget ! 8 refl $ forget ! 10 refl $
+    forget ! 12 refl $ move ! (12 ∷ 13 ∷ []) $ free1 ! $
+    move ! (10 ∷ 11 ∷ []) $ free1 ! $ move ! (8 ∷ 9 ∷ []) $ free1 ! $ move ! (6 ∷ 7 ∷ []) $ free1 ! $ move ! (4 ∷ 5 ∷ []) $
+    free1 ! $ move ! (2 ∷ 3 ∷ []) $ free1 ! $ free0 ! $
+    ends t _ _ _
+    (factI 𝓤 _ (emp 𝓤) (h₂ ∙ ap (λ (x : RefT (List ℕ)). tokenAt (now x) (r₁ .pos)) (h₁ .0 ∙ h .0) ∙ ap (tokenAt (now (a .0))) (h₁ .1)))))))))))))))))

@@ -110,7 +110,8 @@ module _ (i : List ℕ) where
         rw e (h r (w .sized) (w .stands))
 
 -- ---- what reading writes into a buffer is an image, and lies within the buffer
-pub written-image : (text buffer : List ℕ) {a : Reading} {n : ℕ} {image : List ℕ} → outcome a image ≡ readingOf (readOf text) buffer → a ≡ Written n → (n ≤ length image) × (isSome (decode (take n image)) ≡ true)
+pub written-image : (text buffer : List ℕ) {a : Reading} {n : ℕ} {image : List ℕ} →
+    outcome a image ≡ readingOf (readOf text) buffer → a ≡ Written n → (n ≤ length image) × (isSome (decode (take n image)) ≡ true)
 written-image text buffer {a} {n} {image} e is = go (readOf text) refl e
   where
     go : (x : Read) → readOf text ≡ x → outcome a image ≡ readingOf x buffer → (n ≤ length image) × (isSome (decode (take n image)) ≡ true)

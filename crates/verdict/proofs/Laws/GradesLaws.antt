@@ -25,7 +25,8 @@ use Rattle.verdict.specs.Check.{oldest}
 use Rattle.verdict.specs.Inner.Grades.{nameGrade, Graded, GradedUpTo}
 
 -- a leaf that says the same of both
-same-graded : {l : Leaf} {es : List Entry} (b : Bool) → b ≡ leafSays l (envOf es oldest []) → b ≡ leafSays l (envOf es oldest (writeOnlyNames es)) → Graded l es (cond b 2 0)
+same-graded : {l : Leaf} {es : List Entry} (b : Bool) → b ≡ leafSays l (envOf es oldest []) →
+    b ≡ leafSays l (envOf es oldest (writeOnlyNames es)) → Graded l es (cond b 2 0)
 same-graded true p q = record { bare = p; archived = q }
 same-graded false p q = record { bare = p; archived = q }
 
@@ -68,7 +69,8 @@ module _ (es : List Entry) (lone : twinOf es ≡ Lone) where
   -- ---- the grade of a leaf, by its kind
   module _ (s : List ℕ) (n : ℕ) {k : ℕ} (a : ℕ) (l : Leaf) (e : meaning s n k a ≡ aLeaf l) where
     pub older-graded : {b : Bool} → k ≡ olderThanKind → leb a oldest ≡ b → Graded l es (cond b 2 0)
-    older-graded {b} h p = same-graded b (sym p ∙ says-older s n a (envOf es oldest []) l e h) (sym p ∙ says-older s n a (envOf es oldest (writeOnlyNames es)) l e h)
+    older-graded {b} h p =
+        same-graded b (sym p ∙ says-older s n a (envOf es oldest []) l e h) (sym p ∙ says-older s n a (envOf es oldest (writeOnlyNames es)) l e h)
 
     pub readable-graded : {b : Bool} → k ≡ readableKind → leb a 0 ≡ b → Graded l es (cond b 2 0)
     readable-graded {b} h p = same-graded b (says (envOf es oldest []) ready-bare) (says (envOf es oldest (writeOnlyNames es)) ready-archived)
@@ -78,7 +80,8 @@ module _ (es : List Entry) (lone : twinOf es ≡ Lone) where
 
     -- a name, which is this store's
     pub name-graded : {w : List ℕ} (x : Entry) → k ≡ namedKind → w ≡ nameOf s n a → List·Memᴰ x es → w ≡ x .name → Graded l es (nameGrade (x .mode))
-    name-graded {w} x h named-as m p = by (eqb (x .mode) writeOnly) (says-named s n a (envOf es oldest (writeOnlyNames es)) l e h named-as (rw p (sym (write-only-has x m))))
+    name-graded {w} x h named-as m p =
+        by (eqb (x .mode) writeOnly) (says-named s n a (envOf es oldest (writeOnlyNames es)) l e h named-as (rw p (sym (write-only-has x m))))
       where
         keeps : false ≡ leafSays l (envOf es oldest [])
         keeps = says-named s n a (envOf es oldest []) l e h named-as (sym (none-has w))
@@ -88,5 +91,6 @@ module _ (es : List Entry) (lone : twinOf es ≡ Lone) where
         by false q = record { bare = keeps; archived = q }
 
 -- ---- the grades of one node more
-pub graded-next : (s : List ℕ) (n : ℕ) (grades : List ℕ) (g : ℕ) {es : List Entry} {i : ℕ} → GradedUpTo s n i grades es → i < length grades → ((l : Leaf) → cellAt s n i .what ≡ aLeaf l → Graded l es g) → GradedUpTo s n (i + 1) (set grades i g) es
+pub graded-next : (s : List ℕ) (n : ℕ) (grades : List ℕ) (g : ℕ) {es : List Entry} {i : ℕ} → GradedUpTo s n i grades es →
+    i < length grades → ((l : Leaf) → cellAt s n i .what ≡ aLeaf l → Graded l es g) → GradedUpTo s n (i + 1) (set grades i g) es
 graded-next s n grades g {es} {i} h lt here j less l e = after-set (Graded l es) grades i g j lt (λ p. here l (rw p at e)) (λ q. h j (omega arith) l e)

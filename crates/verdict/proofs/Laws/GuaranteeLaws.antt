@@ -48,7 +48,8 @@ module _ (text s : List ℕ) where
 
   module _ (buffer : List ℕ) where
     -- the bytes written are the image of the text's rule
-    image-written : {r : Rule} → 26_628 ≤ length buffer → readOf text ≡ rule r → (let o = readInto text buffer in bytesWritten (o .answer) (o .image) ≡ encode r)
+    image-written : {r : Rule} → 26_628 ≤ length buffer → readOf text ≡ rule r →
+        (let o = readInto text buffer in bytesWritten (o .answer) (o .image) ≡ encode r)
     image-written {r} room e = rw (reads text buffer room e) (take-append-seam (encode r) (drop (length (encode r)) buffer))
 
     read-then-check : (x : Read) → readOf text ≡ x → (let o = readingOf x buffer in judgeOf text s ≡ thenCheck (o .answer) (o .image) s)
@@ -64,7 +65,9 @@ module _ (text s : List ℕ) where
   judged = record {
     guarantee = λ t. guaranteed (λ r. readOf text ≡ rule r) t (λ r e. judge-read e) (held (readOf text) refl);
     unread = λ f e. let (low, high) = read-number text f e in (judge-read e, low, high);
-    decides = λ r e table distinct buffer room age l is. rw (image-written buffer room e) (decide-read-says text r e s age l table (no-twin-distinct (entriesIn s) .1 distinct) is);
+    decides =
+        λ r e table distinct buffer room age l is. rw (image-written buffer room e)
+        (decide-read-says text r e s age l table (no-twin-distinct (entriesIn s) .1 distinct) is);
     read-check = λ buffer room. rw (reads text buffer room refl) (read-then-check buffer (readOf text) refl);
   }
     where

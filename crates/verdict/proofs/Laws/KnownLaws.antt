@@ -27,7 +27,8 @@ at-no false i e = refl
 
 module _ (es : List Entry) where
   -- of two rules, or of rules and one more: none is unknown in both where the names of both are stores'
-  none-stored : {x y : Unknown} (vs : List (List ℕ)) {ws : List (List ℕ)} → (x ≡ No → Stored es vs) → (y ≡ No → Stored es ws) → first x y ≡ No → Stored es (vs ++ ws)
+  none-stored : {x y : Unknown} (vs : List (List ℕ)) {ws : List (List ℕ)} → (x ≡ No → Stored es vs) → (y ≡ No → Stored es ws) →
+      first x y ≡ No → Stored es (vs ++ ws)
   none-stored {x} {y} vs f g e w m = let (p, q) = first-no x y e in ⊎-elim (f p w) (g q w) (List·Memᴰ·append-cases vs m)
 
   stored-none : {x y : Unknown} (vs ws : List (List ℕ)) → (Stored es vs → x ≡ No) → (Stored es ws → y ≡ No) → Stored es (vs ++ ws) → first x y ≡ No

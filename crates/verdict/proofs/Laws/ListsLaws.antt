@@ -57,12 +57,14 @@ pub write-only-is : (s : List ℕ) → Table s → (l : List ℕ) × JustWriteOn
 write-only-is s t =
     let es = entriesIn s in
     let laid = well-made-laid _ s (t .made) in
-    let (b, m, e) = list-of (writeOnlyNames es) (omega (arith, write-only-few es, length-entries s laid, laid .few)) (λ w h. named-fit w (mem-write-only s w h)) in
+    let (b, m, e) = list-of (writeOnlyNames es) (omega (arith, write-only-few es, length-entries s laid, laid .few))
+    (λ w h. named-fit w (mem-write-only s w h)) in
     let c : Confirmed (listOf (writeOnlyNames es)) = record { bytes = b; made = m } in (
       listOf (writeOnlyNames es),
       record {
         list = c;
-        just = λ w. (λ n. mem-write-only s w (has-mem w (writeOnlyNames es) (rw e at (named-has c w n))), λ n. has-named c w (rw e (mem-has (write-only-mem s w n))));
+        just = λ w.
+            (λ n. mem-write-only s w (has-mem w (writeOnlyNames es) (rw e at (named-has c w n))), λ n. has-named c w (rw e (mem-has (write-only-mem s w n))));
       },
     )
   where

@@ -47,11 +47,15 @@ module _ (es : List Entry) where
         go : (b : Bool) → Below (k + 1) (cond b (At k) No)
         go true = omega arith
         go false = tt
-    unknown-below (node j rs r) k = first-below _ (unknownAll es rs k) _ (wider _ _ (unknownAll es rs k) (omega arith) (unknowns-below rs k)) (wider _ _ (unknownIn es r (k + sizes rs)) (omega arith) (unknown-below r (k + sizes rs)))
+    unknown-below (node j rs r) k =
+        first-below _ (unknownAll es rs k) _ (wider _ _ (unknownAll es rs k) (omega arith) (unknowns-below rs k))
+        (wider _ _ (unknownIn es r (k + sizes rs)) (omega arith) (unknown-below r (k + sizes rs)))
 
     unknowns-below : (rs : Rules) (k : ℕ) → Below (k + sizes rs) (unknownAll es rs k)
     unknowns-below nil k = tt
-    unknowns-below (more rs r) k = first-below _ (unknownAll es rs k) _ (wider _ _ (unknownAll es rs k) (omega arith) (unknowns-below rs k)) (wider _ _ (unknownIn es r (k + sizes rs)) (omega arith) (unknown-below r (k + sizes rs)))
+    unknowns-below (more rs r) k =
+        first-below _ (unknownAll es rs k) _ (wider _ _ (unknownAll es rs k) (omega arith) (unknowns-below rs k))
+        (wider _ _ (unknownIn es r (k + sizes rs)) (omega arith) (unknown-below r (k + sizes rs)))
 
 -- ---- a rule
 -- the place of a refusal where a rule has n nodes; 18's is the index of a store

@@ -94,8 +94,11 @@ module _ {s : List ℕ} (t : Table s) (r : Rule) where
         by true q = absurd (true≢false (sym h ∙ (rw p at (none .1 e m q))))
         by false q = mem-has (write-only-mem s w (e, m, unreadable-mode (entry-mode _ s (t .made) e m) q, p))
 
-    reaches : NoneReady (entriesIn s) ns → evict r (envOf (entriesIn s) age ns) ≡ true → evict r (envOf (entriesIn s) oldest (writeOnlyNames (entriesIn s))) ≡ true
-    reaches none = evict-up (envOf (entriesIn s) age ns) (envOf (entriesIn s) oldest (writeOnlyNames (entriesIn s))) young (omega (arith, none .0)) r (λ w m. kept none w (known w m))
+    reaches : NoneReady (entriesIn s) ns → evict r (envOf (entriesIn s) age ns) ≡ true →
+        evict r (envOf (entriesIn s) oldest (writeOnlyNames (entriesIn s))) ≡ true
+    reaches none =
+        evict-up (envOf (entriesIn s) age ns) (envOf (entriesIn s) oldest (writeOnlyNames (entriesIn s))) young
+        (omega (arith, none .0)) r (λ w m. kept none w (known w m))
 
   to-safe : Known r s → evict r (envOf (entriesIn s) oldest (writeOnlyNames (entriesIn s))) ≡ false → Safe r s
   to-safe known keep age young l c e = ⊎-elim on off (ready-or-none (entriesIn s) (listNames l))
@@ -152,15 +155,18 @@ module _ {s : List ℕ} (t : Table s) (r : Rule) where
     pub rule-21 : (l : List ℕ) → Nothing l → (checkRule r s ≡ Refused (refusal unconfirmed 0)) ↔ Evicts r s oldest l
     rule-21 l n = rw (check-known, nothing-same r s oldest l n) (verdict-21 (evictsUnconfirmed r (entriesIn s)) (evictsOnArchive r (entriesIn s)))
 
-    pub rule-22 : (l k : List ℕ) → Nothing l → JustWriteOnly s k → (checkRule r s ≡ Refused (refusal archiveOnly 0)) ↔ ((Evicts r s oldest l → ⊥) × Evicts r s oldest k)
+    pub rule-22 : (l k : List ℕ) → Nothing l → JustWriteOnly s k →
+        (checkRule r s ≡ Refused (refusal archiveOnly 0)) ↔ ((Evicts r s oldest l → ⊥) × Evicts r s oldest k)
     rule-22 l k n j = rw (check-known, nothing-same r s oldest l n, write-only-same r s oldest k j) (to, from)
       where
-        to : verdict No (evictsUnconfirmed r (entriesIn s)) (evictsOnArchive r (entriesIn s)) ≡ Refused (refusal archiveOnly 0) → (evictsUnconfirmed r (entriesIn s) ≡ true → ⊥) × (evict r (envOf (entriesIn s) oldest (writeOnlyNames (entriesIn s))) ≡ true)
+        to : verdict No (evictsUnconfirmed r (entriesIn s)) (evictsOnArchive r (entriesIn s)) ≡ Refused (refusal archiveOnly 0) →
+            (evictsUnconfirmed r (entriesIn s) ≡ true → ⊥) × (evict r (envOf (entriesIn s) oldest (writeOnlyNames (entriesIn s))) ≡ true)
         to e =
             let (b, a) = verdict-22 (evictsUnconfirmed r (entriesIn s)) (evictsOnArchive r (entriesIn s)) .0 e in
             (λ d. true≢false (sym d ∙ b), sym (archived-by r (entriesIn s) b) ∙ a)
 
-        from : (evictsUnconfirmed r (entriesIn s) ≡ true → ⊥) × (evict r (envOf (entriesIn s) oldest (writeOnlyNames (entriesIn s))) ≡ true) → verdict No (evictsUnconfirmed r (entriesIn s)) (evictsOnArchive r (entriesIn s)) ≡ Refused (refusal archiveOnly 0)
+        from : (evictsUnconfirmed r (entriesIn s) ≡ true → ⊥) × (evict r (envOf (entriesIn s) oldest (writeOnlyNames (entriesIn s))) ≡ true) →
+            verdict No (evictsUnconfirmed r (entriesIn s)) (evictsOnArchive r (entriesIn s)) ≡ Refused (refusal archiveOnly 0)
         from (keeps, a) =
             let b = false-of (evictsUnconfirmed r (entriesIn s)) keeps in
             verdict-22 (evictsUnconfirmed r (entriesIn s)) (evictsOnArchive r (entriesIn s)) .1 (b, archived-by r (entriesIn s) b ∙ a)
@@ -168,15 +174,20 @@ module _ {s : List ℕ} (t : Table s) (r : Rule) where
   pub rule-20 : (Known r s → ⊥) → (i : ℕ) × (checkRule r s ≡ Refused (refusal unknownStore i))
   rule-20 unknown = rw check-verdict (by (unknownIn (entriesIn s) r 0) refl)
     where
-      by : (u : Unknown) → unknownIn (entriesIn s) r 0 ≡ u → (i : ℕ) × (verdict u (evictsUnconfirmed r (entriesIn s)) (evictsOnArchive r (entriesIn s)) ≡ Refused (refusal unknownStore i))
+      by : (u : Unknown) → unknownIn (entriesIn s) r 0 ≡ u →
+          (i : ℕ) × (verdict u (evictsUnconfirmed r (entriesIn s)) (evictsOnArchive r (entriesIn s)) ≡ Refused (refusal unknownStore i))
       by No e = absurd (unknown (no-known e))
       by (At i) e = (i, refl)
 
 -- what may hold a rule, where the verdict on it is check's on the rule, and a pass only where it holds one
-pub guaranteed : (Holds : Rule → Type 0) {s : List ℕ} {v : Verdict} → Table s → ((r : Rule) → Holds r → v ≡ checkRule r s) → (v ≡ Pass → (r : Rule) × Holds r) → Guarantee Holds s v
+pub guaranteed : (Holds : Rule → Type 0) {s : List ℕ} {v : Verdict} → Table s → ((r : Rule) → Holds r → v ≡ checkRule r s) →
+    (v ≡ Pass → (r : Rule) × Holds r) → Guarantee Holds s v
 guaranteed Holds {s} {v} t says held =
     record {
-      passes = (λ e. let (r, h) = held e in let (k, safe) = rule-passes t r .0 (sym (says r h) ∙ e) in (r, h, k, safe), λ x. says (x .0) (x .1) ∙ rule-passes t (x .0) .1 (x .2, x .3));
+      passes = (
+        λ e. let (r, h) = held e in let (k, safe) = rule-passes t r .0 (sym (says r h) ∙ e) in (r, h, k, safe),
+        λ x. says (x .0) (x .1) ∙ rule-passes t (x .0) .1 (x .2, x .3),
+      );
       answers = λ r h k. rw (says r h) (rule-answers t r k);
       unconfirmed-when = λ r h k. rw (says r h) (rule-21 t r k);
       archive-only-when = λ r h k. rw (says r h) (rule-22 t r k);

@@ -100,6 +100,7 @@ module _ (stores : List Entry) (s : List ℕ) (n i : ℕ) {d : Node} (e : d ≡ 
   other-known h = rw (← cell-what s n i e) (not-named stores (meaning s n (d .kind) (d .arg)) i (no-name s n (d .kind) (d .arg) h))
 
   -- it is a name, and b says whether it is a store's
-  pub name-says : {b : Bool} {w : List ℕ} → d .kind ≡ namedKind → w ≡ nameOf s n (d .arg) → has w (allNames stores) ≡ b → unknownCell stores (cellAt s n i .what) i ≡ cond (not b) (At i) No
+  pub name-says : {b : Bool} {w : List ℕ} → d .kind ≡ namedKind → w ≡ nameOf s n (d .arg) → has w (allNames stores) ≡ b →
+      unknownCell stores (cellAt s n i .what) i ≡ cond (not b) (At i) No
   unfolding meaning unknownCell isUnknown
   name-says k named-as says = rw (← cell-what s n i e, k, ← named-as, says)

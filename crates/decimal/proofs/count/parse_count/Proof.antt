@@ -30,14 +30,20 @@ returns-2 c =
     sym (count-off (l .value) _ (l .i) (omega arith) (sym (c .before .is-digit .ensures) ∙ not-true _ (c .if2 .taken))) ∙ l .inv .1 .1
 
 -- the byte is a digit
-digit : (c : tie.Else2 Inv-loop μ-loop) → isDigit (getD (c .before .before .before .before .before .before .before .before .args .word .now) (c .before .before .before .before .loop .i) 0) ≡ true
+digit : (c : tie.Else2 Inv-loop μ-loop) →
+    let entry = c .before .before .before .before .before .before .before .before in
+    isDigit (getD (entry .args .word .now) (c .before .before .before .before .loop .i) 0) ≡ true
 digit c = sym (c .before .is-digit .ensures) ∙ not-false _ (c .if2 .left)
 
 digit-of-requires : tie.Need-digit-of-requires Inv-loop μ-loop
 digit-of-requires c κs = digit c
 
 -- the bytes after it, read after the number that now includes it, write the count
-on : (c : tie.After-digit-of Inv-loop μ-loop) → let l = c .before .before .before .before .before .loop in let w = c .before .before .before .before .before .before .before .before .before .args .word .now in countFrom (l .value * 10 + c .digit-of .result) (drop (l .i + 1) w) ≡ countOf w
+on : (c : tie.After-digit-of Inv-loop μ-loop) →
+    let loop = c .before .before .before .before .before in
+    let l = loop .loop in
+    let w = loop .before .before .before .before .args .word .now in
+    countFrom (l .value * 10 + c .digit-of .result) (drop (l .i + 1) w) ≡ countOf w
 on c =
     let l = c .before .before .before .before .before .loop in
     rw (c .digit-of .ensures) (sym (count-on (l .value) _ (l .i) (omega arith) (digit (c .before))) ∙ l .inv .1 .1)

@@ -1,4 +1,5 @@
--- `durations::duration::decimal_of` meets its contract: the digits left, read after the number so far, write the number, so it stays below 10^9. Assumes nothing.
+-- `durations::duration::decimal_of` meets its contract: the digits left, read after the number so far, write the number, so it
+-- stays below 10^9. Assumes nothing.
 use mathlib.Core.Path.{_≡_, refl, sym, _∙_}
 use Prim.Native.Nat.{_-_, _≤_}
 use native.Mathlib.Omega.{arith}

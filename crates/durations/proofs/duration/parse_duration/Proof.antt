@@ -14,7 +14,8 @@ use Rattle.durations.proofs.duration.parse_duration.Statement.{statemen
 use Rattle.durations.proofs.duration.parse_duration.Tie as tie
 
 abbrev Inv-loop : tie.InvT-loop
-Inv-loop word class at₀ total₀ rank₀ at total rank = (at ≤ length word) × ((total ≤ rank * partMost) × (plus total (partsFrom (drop rank units) word at) ≡ durationOf word))
+Inv-loop word class at₀ total₀ rank₀ at total rank =
+    (at ≤ length word) × ((total ≤ rank * partMost) × (plus total (partsFrom (drop rank units) word at) ≡ durationOf word))
 
 abbrev μ-loop : tie.MeasureT-loop
 μ-loop word class at₀ total₀ rank₀ at total rank = length units - rank
@@ -25,7 +26,9 @@ loop-holds c =
     (end-within _ (c .before .before .args .word .now) 0 (omega arith) e .1, (omega arith, parts-start _ e))
 
 -- what was read is what is there
-read : (c : tie.After-part-at Inv-loop μ-loop) {p : Part} → c .part-at .result ≡ p → let l = c .before .before .loop in partAt (unitAt (l .rank)) (c .before .before .before .before .before .args .word .now) (l .at) ≡ p
+read : (c : tie.After-part-at Inv-loop μ-loop) {p : Part} →
+    let entry = c .before .before .before .before .before in
+    c .part-at .result ≡ p → let l = c .before .before .loop in partAt (unitAt (l .rank)) (entry .args .word .now) (l .at) ≡ p
 read c e = sym (c .part-at .ensures) ∙ e
 
 add-total : tie.Need-add-total Inv-loop μ-loop
@@ -48,8 +51,10 @@ loop-again c =
     ⊎-elim
     (λ w.
     let q = read p (w .1 .given .1) in
-    rw (w .4, w .5)
-    (part-within (unitAt (l .rank)) _ (l .at) q (l .inv .0), (omega (arith, part-small (l .rank) _ (l .at) q), sym (parts-on (l .total) _ (l .at) (l .rank) h q (w .3 .left)) ∙ l .inv .1 .1)))
+    rw (w .4, w .5) (
+      part-within (unitAt (l .rank)) _ (l .at) q (l .inv .0),
+      (omega (arith, part-small (l .rank) _ (l .at) q), sym (parts-on (l .total) _ (l .at) (l .rank) h q (w .3 .left)) ∙ l .inv .1 .1),
+    ))
     (λ w.
     rw (w .2, w .3)
     (l .inv .0, (omega arith, sym (parts-skip (l .total) _ (l .at) (l .rank) h (read p (w .1 .given .1))) ∙ l .inv .1 .1)))

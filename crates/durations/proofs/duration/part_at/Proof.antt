@@ -58,9 +58,9 @@ slice-aggregate-eq c = sym (length-take-le _ _ (in-name (c .before .before .befo
 
 -- what is compared is the name in the word and the unit's
 named : (c : tie.After-eq) →
-    let u = c .before .before .before .before .before in
-    let entry = u .before .before .before .before .before .before .args in
-    c .eq .result ≡ equal (part (entry .word .now) (u .before .class-end .result) (u .unit-end .result)) (unitAt (entry .rank) .name)
+    let after-unit-end = c .before .before .before .before .before in
+    let entry = after-unit-end .before .before .before .before .before .before .args in
+    c .eq .result ≡ equal (part (entry .word .now) (after-unit-end .before .class-end .result) (after-unit-end .unit-end .result)) (unitAt (entry .rank) .name)
 unfolding part
 named c = c .eq .ensures ∙ ap (equal _) (c .before .before .before .before .time-unit .ensures .name)
 
@@ -73,9 +73,9 @@ decimal-of-requires c κs =
 
 mul-t21 : tie.Need-mul-t21
 mul-t21 c =
-    let t = c .before .before .before .before .before .before .before .before in
-    let entry = t .before .before .before .before .before .before .before .args in
-    omega (arith, amount-small (entry .rank) (c .before .decimal-of .ensures .1) (t .time-unit .ensures .milliseconds))
+    let after-time-unit = c .before .before .before .before .before .before .before .before in
+    let entry = after-time-unit .before .before .before .before .before .before .before .args in
+    omega (arith, amount-small (entry .rank) (c .before .decimal-of .ensures .1) (after-time-unit .time-unit .ensures .milliseconds))
 
 returns-3 : tie.Need-returns-3
 returns-3 c =
@@ -90,9 +90,10 @@ returns-3 c =
 
 returns-4 : tie.Need-returns-4
 returns-4 c =
-    let u = c .before .before .before .before .before .before in
+    let after-unit-end = c .before .before .before .before .before .before in
     sym
-    (part-other _ _ _ (u .before .before .before .before .digits-end .ensures) (u .before .class-end .ensures) (u .unit-end .ensures)
+    (part-other _ _ _ (after-unit-end .before .before .before .before .digits-end .ensures)
+    (after-unit-end .before .class-end .ensures) (after-unit-end .unit-end .ensures)
     (sym (named (c .before)) ∙ c .if3 .left))
 
 pub part-at-spec : {M : Type 1} → statement M

@@ -23,22 +23,30 @@ loop-holds : tie.Need-loop-holds Inv-loop μ-loop
 loop-holds c = (omega arith, refl, λ j lt l e. absurd (omega arith))
 
 node-at-requires : tie.Need-node-at-requires Inv-loop μ-loop
-node-at-requires c κs = (c .before .before .before .before .before .before .pre .0 .long, c .loop-test .taken)
+node-at-requires c κs =
+    let entry = c .before .before .before .before .before .before in
+    (entry .pre .0 .long, c .loop-test .taken)
 
 leaf-says-requires : tie.Need-leaf-says-requires Inv-loop μ-loop
 leaf-says-requires c κs =
-    let s = c .before .before .before .before .before .before .before .before .before in
-    (name-inside _ _ _ (c .before .before .node-at .ensures) (s .pre .0 .names) (c .before .before .before .loop-test .taken), s .pre .1 .1)
+    let entry = c .before .before .before .before .before .before .before .before .before in
+    (name-inside _ _ _ (c .before .before .node-at .ensures) (entry .pre .0 .names) (c .before .before .before .loop-test .taken), entry .pre .1 .1)
 
 -- there is room for the node's number
 the-room : (c : tie.In-loop Inv-loop μ-loop) → c .before .loop .i < length (c .before .loop .says)
-the-room c = omega (arith, c .before .before .before .before .before .before .pre .1 .0, c .before .loop .inv .1, c .loop-test .taken)
+the-room c =
+    let entry = c .before .before .before .before .before .before in
+    omega (arith, entry .pre .1 .0, c .before .loop .inv .1, c .loop-test .taken)
 
 slice-write-says : tie.Need-slice-write-says Inv-loop μ-loop
-slice-write-says c = the-room (c .before .before .before .before .before)
+slice-write-says c =
+    let in-loop = c .before .before .before .before .before in
+    the-room in-loop
 
 slice-write-says-2 : tie.Need-slice-write-says-2 Inv-loop μ-loop
-slice-write-says-2 c = the-room (c .before .before .before .before .before)
+slice-write-says-2 c =
+    let in-loop = c .before .before .before .before .before in
+    the-room in-loop
 
 loop-less : tie.Need-loop-less Inv-loop μ-loop
 loop-less c = omega (arith, c .before .before .before .loop-test .taken)
@@ -49,9 +57,22 @@ loop-again c =
     let lt = c .before .before .before .loop-test .taken in
     let room = the-room (c .before .before .before) in
     let what = cell-what _ _ _ (c .before .before .node-at .ensures) in
-    ⊎-elim (λ v. rw (v .3) (omega arith, length-set (k .says) (k .i) 1 ∙ k .inv .1, said-write _ _ (k .says) 1 _ (k .inv .2) 1 room (λ l e. sym (v .2 .taken) ∙ v .1 .ensures l (what ∙ e))))
-    (⊎-elim (λ v. rw (v .3) (omega arith, length-set (k .says) (k .i) 0 ∙ k .inv .1, said-write _ _ (k .says) 1 _ (k .inv .2) 0 room (λ l e. sym (v .2 .left) ∙ v .1 .ensures l (what ∙ e))))
-    (λ v. rw (v .1) (omega arith, k .inv .1, said-skip _ _ (k .says) 1 _ (k .inv .2) (λ l e. no-leaf _ _ _ _ (sym (c .before .is-leaf .ensures) ∙ v .0 .left) l (what ∙ e)))))
+    ⊎-elim (λ v. rw (v .3) (
+      omega arith,
+      length-set (k .says) (k .i) 1 ∙ k .inv .1,
+      said-write _ _ (k .says) 1 _ (k .inv .2) 1 room (λ l e. sym (v .2 .taken) ∙ v .1 .ensures l (what ∙ e)),
+    ))
+    (⊎-elim
+    (λ v. rw (v .3) (
+      omega arith,
+      length-set (k .says) (k .i) 0 ∙ k .inv .1,
+      said-write _ _ (k .says) 1 _ (k .inv .2) 0 room (λ l e. sym (v .2 .left) ∙ v .1 .ensures l (what ∙ e)),
+    ))
+    (λ v. rw (v .1) (
+      omega arith,
+      k .inv .1,
+      said-skip _ _ (k .says) 1 _ (k .inv .2) (λ l e. no-leaf _ _ _ _ (sym (c .before .is-leaf .ensures) ∙ v .0 .left) l (what ∙ e)),
+    )))
     (c .if1 .came)
 
 same-length : tie.Need-same-length Inv-loop μ-loop

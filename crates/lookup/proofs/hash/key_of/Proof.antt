@@ -14,7 +14,13 @@ returns c = rw (le-leb _ _ (c .before .before .if1 .taken), ← c .before .read-
 
 returns-2 : tie.Need-returns-2
 unfolding keyOf
-returns-2 c = rw (lt-leb _ _ (c .before .before .before .if1 .left), le-leb _ _ (c .before .before .if2 .taken), ← c .before .read-u32 .ensures .0, ← c .read-u322 .ensures .0)
+returns-2 c =
+    rw (
+      lt-leb _ _ (c .before .before .before .if1 .left),
+      le-leb _ _ (c .before .before .if2 .taken),
+      ← c .before .read-u32 .ensures .0,
+      ← c .read-u322 .ensures .0,
+    )
 
 cast-result : tie.Need-cast-result
 cast-result c = omega (arith, c .shared-slice-known2 .given 0)

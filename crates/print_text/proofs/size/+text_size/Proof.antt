@@ -40,7 +40,22 @@ text-size-below t =
 
 -- what the callees ask and give
 abbrev given : ℕ → text-size-lts.Claims
-given t = (node-at-reads.Asked, node-at-reads.Learnt, is-leaf-reads.Asked, is-leaf-reads.Learnt, leaf-size-reads.Asked, leaf-size-reads.Learnt, opening-size-reads.Asked, opening-size-reads.Learnt, after-size-reads.Asked, after-size-reads.Learnt, around-size-reads.Asked, around-size-reads.Learnt, text-size-below t, text-size.Post)
+given t = (
+  node-at-reads.Asked,
+  node-at-reads.Learnt,
+  is-leaf-reads.Asked,
+  is-leaf-reads.Learnt,
+  leaf-size-reads.Asked,
+  leaf-size-reads.Learnt,
+  opening-size-reads.Asked,
+  opening-size-reads.Learnt,
+  after-size-reads.Asked,
+  after-size-reads.Learnt,
+  around-size-reads.Asked,
+  around-size-reads.Learnt,
+  text-size-below t,
+  text-size.Post,
+)
 
 abbrev text-size-Inv-loop : text-size-lts.InvT-loop
 text-size-Inv-loop image n from size at kind arg end₀ total₀ between end total =
@@ -50,7 +65,8 @@ abbrev text-size-μ-loop : text-size-lts.MeasureT-loop
 text-size-μ-loop image n from size at kind arg end₀ total₀ between end total = end
 
 -- at entry there is a node, and the last one is within the image
-the-node : (t : ℕ) (c : text-size-lts.Start (given t) (text-size-at t) text-size.Post text-size-Inv-loop text-size-μ-loop) → (0 < c .args .size) × (c .args .from + c .args .size ≤ c .args .n)
+the-node : (t : ℕ) (c : text-size-lts.Start (given t) (text-size-at t) text-size.Post text-size-Inv-loop text-size-μ-loop) →
+    (0 < c .args .size) × (c .args .from + c .args .size ≤ c .args .n)
 the-node t c =
     let h = c .pre .1 .0 in
     (omega (arith, size-pos (h .here .rule), h .here .sized), h .within)
@@ -75,31 +91,41 @@ text-size-leaf-size-requires t c κs =
 text-size-returns : (t : ℕ) → text-size-lts.Need-returns (given t) (text-size-at t) text-size.Post text-size-Inv-loop text-size-μ-loop
 text-size-returns t c = λ ρ e st.
     let s = c .before .before .before .before .before in
-    rw (leaf-text _ _ _ _ _ (c .before .before .before .node-at .ensures) (omega (arith, the-node t s)) (sym (c .before .before .is-leaf .ensures) ∙ c .before .if1 .taken) ρ e st) at (c .leaf-size .ensures)
+    rw (leaf-text _ _ _ _ _ (c .before .before .before .node-at .ensures) (omega (arith, the-node t s))
+    (sym (c .before .before .is-leaf .ensures) ∙ c .before .if1 .taken) ρ e st) at (c .leaf-size .ensures)
 
-text-size-opening-size-requires : (t : ℕ) → text-size-lts.Need-opening-size-requires (given t) (text-size-at t) text-size.Post text-size-Inv-loop text-size-μ-loop
+text-size-opening-size-requires : (t : ℕ) →
+    text-size-lts.Need-opening-size-requires (given t) (text-size-at t) text-size.Post text-size-Inv-loop text-size-μ-loop
 text-size-opening-size-requires t c κs = search needs
 
 text-size-after-size-requires : (t : ℕ) → text-size-lts.Need-after-size-requires (given t) (text-size-at t) text-size.Post text-size-Inv-loop text-size-μ-loop
 text-size-after-size-requires t c κs = search needs
 
 text-size-loop-holds : (t : ℕ) → text-size-lts.Need-loop-holds (given t) (text-size-at t) text-size.Post text-size-Inv-loop text-size-μ-loop
-text-size-loop-holds t c = (omega arith, walks-start _ _ _ _ _ (c .before .before .before .before .node-at .ensures) (omega (arith, the-node t (c .before .before .before .before .before .before))) (sym (c .before .before .before .is-leaf .ensures) ∙ c .before .before .if1 .left) (omega arith))
+text-size-loop-holds t c =
+    let entry = c .before .before .before .before .before .before in (
+      omega arith,
+      walks-start _ _ _ _ _ (c .before .before .before .before .node-at .ensures) (omega (arith, the-node t entry))
+          (sym (c .before .before .before .is-leaf .ensures) ∙ c .before .before .if1 .left) (omega arith),
+    )
 
 text-size-sub-node-at : (t : ℕ) → text-size-lts.Need-sub-node-at (given t) (text-size-at t) text-size.Post text-size-Inv-loop text-size-μ-loop
 text-size-sub-node-at t c = omega arith
 
 text-size-node-at-requires-2 : (t : ℕ) → text-size-lts.Need-node-at-requires-2 (given t) (text-size-at t) text-size.Post text-size-Inv-loop text-size-μ-loop
 text-size-node-at-requires-2 t c κs =
-    let s = c .before .before .before .before .before .before .before .before in
-    (s .pre .1 .0 .long, omega (arith, c .before .loop .inv .0, the-node t s))
+    let entry = c .before .before .before .before .before .before .before .before in
+    (entry .pre .1 .0 .long, omega (arith, c .before .loop .inv .0, the-node t entry))
 
 -- the child that a turn counts
 the-turn : (t : ℕ) (c : text-size-lts.After-node-at2 (given t) (text-size-at t) text-size.Post text-size-Inv-loop text-size-μ-loop) →
-    let s = c .before .before .before .before .before .before .before .before .before in
-    let d = c .before .before .before .before .before .before .before .node-at .result in
+    let after-node-at = c .before .before .before .before .before .before .before in
+    let entry = after-node-at .before .before in
+    let d = after-node-at .node-at .result in
     let total = c .before .before .loop .total in
-    Turn (s .args .image .now) (s .args .n) (d .kind) (d .arg) (s .args .from) (s .args .size) (c .before .before .loop .end) (λ t. total ≡ length (openingOf (d .kind) (d .arg)) + length t) (s .pre .1 .0 .here .rule) (nodeOf (c .node-at2 .result))
+    Turn (entry .args .image .now) (entry .args .n) (d .kind) (d .arg) (entry .args .from) (entry .args .size)
+    (c .before .before .loop .end) (λ t. total ≡ length (openingOf (d .kind) (d .arg)) + length t)
+    (entry .pre .1 .0 .here .rule) (nodeOf (c .node-at2 .result))
 the-turn t c =
     let h = c .before .before .before .before .before .before .before .before .before .pre .1 .0 .here in
     let i = c .before .before .loop .inv in
@@ -109,12 +135,13 @@ text-size-around-size-requires : (t : ℕ) → text-size-lts.Need-around-size-re
 text-size-around-size-requires t c κs = c .before .before .before .after-size .ensures
 
 -- its bytes fit a number
-the-room : (t : ℕ) (c : text-size-lts.After-around-size (given t) (text-size-at t) text-size.Post text-size-Inv-loop text-size-μ-loop) → c .before .before .before .loop .total + c .around-size .result + length (textOf (the-turn t (c .before) .child)) ≤ 134_348_800
+the-room : (t : ℕ) (c : text-size-lts.After-around-size (given t) (text-size-at t) text-size.Post text-size-Inv-loop text-size-μ-loop) →
+    c .before .before .before .loop .total + c .around-size .result + length (textOf (the-turn t (c .before) .child)) ≤ 134_348_800
 the-room t c =
-    let s = c .before .before .before .before .before .before .before .before .before .before in
+    let entry = c .before .before .before .before .before .before .before .before .before .before in
     let u = the-turn t (c .before) in
-    let h = s .pre .1 .0 .here in
-    omega (arith, turn-room _ _ u, u .holds, text-short _ _ (h .rule) _ (h .stands), h .sized, the-node t s, s .pre .1 .1)
+    let h = entry .pre .1 .0 .here in
+    omega (arith, turn-room _ _ u, u .holds, text-short _ _ (h .rule) _ (h .stands), h .sized, the-node t entry, entry .pre .1 .1)
 
 text-size-add-total : (t : ℕ) → text-size-lts.Need-add-total (given t) (text-size-at t) text-size.Post text-size-Inv-loop text-size-μ-loop
 text-size-add-total t c = omega (arith, the-room t c)
@@ -123,7 +150,8 @@ text-size-sub-end : (t : ℕ) → text-size-lts.Need-sub-end (given t) (text-siz
 text-size-sub-end t c = omega (arith, the-turn t (c .before) .fits)
 
 -- fewer nodes are left
-the-less : (t : ℕ) (c : text-size-lts.After-around-size (given t) (text-size-at t) text-size.Post text-size-Inv-loop text-size-μ-loop) → let end = c .before .before .before .loop .end in end - c .before .node-at2 .result .size < end
+the-less : (t : ℕ) (c : text-size-lts.After-around-size (given t) (text-size-at t) text-size.Post text-size-Inv-loop text-size-μ-loop) →
+    let end = c .before .before .before .loop .end in end - c .before .node-at2 .result .size < end
 the-less t c = let u = the-turn t (c .before) in omega (arith, u .some, u .fits)
 
 -- r is how many bytes its own text has
@@ -134,33 +162,44 @@ Counted t c r =
     (q : Rule) → size q ≡ d .size → EncodedAt q (cellAt (s .image .now) (s .n)) (c .before .before .before .loop .end - d .size) → r ≡ length (textOf q)
 
 -- so they have room, and the walk continues
-counted-room : (t : ℕ) (c : text-size-lts.After-around-size (given t) (text-size-at t) text-size.Post text-size-Inv-loop text-size-μ-loop) {r : ℕ} → Counted t c r → c .before .before .before .loop .total + c .around-size .result + r ≤ 134_348_800
+counted-room : (t : ℕ) (c : text-size-lts.After-around-size (given t) (text-size-at t) text-size.Post text-size-Inv-loop text-size-μ-loop) {r : ℕ} →
+    Counted t c r → c .before .before .before .loop .total + c .around-size .result + r ≤ 134_348_800
 counted-room t c h =
     let u = the-turn t (c .before) in
     omega (arith, the-room t c, h (u .child) (u .sized) (u .stands))
 
-counted-next : (t : ℕ) (c : text-size-lts.After-around-size (given t) (text-size-at t) text-size.Post text-size-Inv-loop text-size-μ-loop) {r : ℕ} → Counted t c r →
-    let s = c .before .before .before .before .before .before .before .before .before .before .args in
-    let d = c .before .before .before .before .before .before .before .before .node-at .result in
+counted-next : (t : ℕ) (c : text-size-lts.After-around-size (given t) (text-size-at t) text-size.Post text-size-Inv-loop text-size-μ-loop) {r : ℕ} →
+    let after-node-at = c .before .before .before .before .before .before .before .before in
+    Counted t c r →
+    let s = after-node-at .before .before .args in
+    let d = after-node-at .node-at .result in
     let i = c .before .before .before .loop in
     let end = i .end - c .before .node-at2 .result .size in
-    (end ≤ s .from + s .size - 1) × Walks (s .image .now) (s .n) (d .kind) (d .arg) (s .from) (s .size) end (λ t. i .total + c .around-size .result + r ≡ length (openingOf (d .kind) (d .arg)) + length t)
+    (end ≤ s .from + s .size - 1)
+    × Walks (s .image .now) (s .n) (d .kind) (d .arg) (s .from) (s .size) end
+    (λ t. i .total + c .around-size .result + r ≡ length (openingOf (d .kind) (d .arg)) + length t)
 counted-next t c h =
-    let i = c .before .before .before .loop .inv in
-    (omega (arith, i .0), walks-next _ _ _ _ _ (i .1) (i .0) (c .before .before .loop-test .taken) (c .before .node-at2 .ensures) (λ q v e st x. simp length-append (omega (arith, h q e st))))
+    let i = c .before .before .before .loop .inv in (
+      omega (arith, i .0),
+      walks-next _ _ _ _ _ (i .1) (i .0) (c .before .before .loop-test .taken) (c .before .node-at2 .ensures)
+          (λ q v e st x. simp length-append (omega (arith, h q e st))),
+    )
 
 text-size-is-leaf-requires-2 : (t : ℕ) → text-size-lts.Need-is-leaf-requires-2 (given t) (text-size-at t) text-size.Post text-size-Inv-loop text-size-μ-loop
 text-size-is-leaf-requires-2 t c κs = search needs
 
 text-size-leaf-size-requires-2 : (t : ℕ) → text-size-lts.Need-leaf-size-requires-2 (given t) (text-size-at t) text-size.Post text-size-Inv-loop text-size-μ-loop
 text-size-leaf-size-requires-2 t c κs =
-    let s = c .before .before .before .before .before .before .before .before .before .before .before .before in
-    name-inside _ _ _ (c .before .before .before .node-at2 .ensures) (s .pre .1 .0 .names) (omega (arith, c .before .before .before .before .before .loop .inv .0, the-node t s))
+    let loop = c .before .before .before .before .before in
+    let entry = loop .before .before .before .before .before .before .before in
+    name-inside _ _ _ (c .before .before .before .node-at2 .ensures) (entry .pre .1 .0 .names) (omega (arith, loop .loop .inv .0, the-node t entry))
 
-leaf-counted : (t : ℕ) (c : text-size-lts.After-leaf-size2 (given t) (text-size-at t) text-size.Post text-size-Inv-loop text-size-μ-loop) → Counted t (c .before .before .before) (c .leaf-size2 .result)
+leaf-counted : (t : ℕ) (c : text-size-lts.After-leaf-size2 (given t) (text-size-at t) text-size.Post text-size-Inv-loop text-size-μ-loop) →
+    Counted t (c .before .before .before) (c .leaf-size2 .result)
 leaf-counted t c q e st =
     let u = the-turn t (c .before .before .before .before) in
-    rw (leaf-text _ _ _ _ _ (c .before .before .before .before .node-at2 .ensures) (omega (arith, u .some, u .fits)) (sym (c .before .before .is-leaf2 .ensures) ∙ c .before .if2 .taken) q e st) at (c .leaf-size2 .ensures)
+    rw (leaf-text _ _ _ _ _ (c .before .before .before .before .node-at2 .ensures) (omega (arith, u .some, u .fits))
+    (sym (c .before .before .is-leaf2 .ensures) ∙ c .before .if2 .taken) q e st) at (c .leaf-size2 .ensures)
 
 text-size-add-total-2 : (t : ℕ) → text-size-lts.Need-add-total-2 (given t) (text-size-at t) text-size.Post text-size-Inv-loop text-size-μ-loop
 text-size-add-total-2 t c = omega (arith, counted-room t (c .before .before .before) (leaf-counted t c))
@@ -173,15 +212,26 @@ text-size-loop-again t c = counted-next t (c .before .before .before) (leaf-coun
 
 text-size-text-size-requires : (t : ℕ) → text-size-lts.Need-text-size-requires (given t) (text-size-at t) text-size.Post text-size-Inv-loop text-size-μ-loop
 text-size-text-size-requires t c κs =
-    let i = c .before .before .before .before .before .loop in
-    let s = c .before .before .before .before .before .before .before .before .before .before .before .before in
-    let n = the-node t s in
+    let loop = c .before .before .before .before .before in
+    let entry = loop .before .before .before .before .before .before .before in
+    let i = loop .loop in
+    let n = the-node t entry in
     let u = the-turn t (c .before .before .before) in
     let p = u .some in
     let q = u .fits in
     let le = i .inv .0 in
-    let lt : c .before .before .before .node-at2 .result .size < t = omega (arith, s .pre .0) in
-    (lt, (record { long = s .pre .1 .0 .long; names = s .pre .1 .0 .names; within = omega arith; here = record { rule = u .child; sized = u .sized; stands = u .stands } }, s .pre .1 .1))
+    let lt : c .before .before .before .node-at2 .result .size < t = omega (arith, entry .pre .0) in (
+      lt,
+      (
+        record {
+          long = entry .pre .1 .0 .long;
+          names = entry .pre .1 .0 .names;
+          within = omega arith;
+          here = record { rule = u .child; sized = u .sized; stands = u .stands };
+        },
+        entry .pre .1 .1,
+      ),
+    )
 
 text-size-add-total-3 : (t : ℕ) → text-size-lts.Need-add-total-3 (given t) (text-size-at t) text-size.Post text-size-Inv-loop text-size-μ-loop
 text-size-add-total-3 t c = omega (arith, counted-room t (c .before .before .before) (c .text-size .ensures))

@@ -14,18 +14,26 @@ use Rattle.safety.proofs.check.check_in.Statement.{statement}
 use Rattle.safety.proofs.check.check_in.Tie as tie
 
 -- what the tests that were passed say
-the-table : (c : tie.Else1) → isTable (c .before .before .before .before .before .args .stores .now) ≡ true
+the-table : (c : tie.Else1) →
+    let entry = c .before .before .before .before .before in
+    isTable (entry .args .stores .now) ≡ true
 the-table c = sym (c .before .is-table .ensures) ∙ not-false _ (c .if1 .left)
 
-the-lone : (c : tie.After-enum-told) → twinOf (entriesIn (c .before .before .before .before .before .before .before .before .before .before .args .stores .now)) ≡ No
+the-lone : (c : tie.After-enum-told) →
+    let entry = c .before .before .before .before .before .before .before .before .before .before in
+    twinOf (entriesIn (entry .args .stores .now)) ≡ No
 the-lone c = sym (c .before .before .twin-of .ensures .0) ∙ c .enum-told .given .1
 
-the-stores : (c : tie.Else2) → WithStores (c .before .before .before .before .before .before .before .before .before .before .before .before .args .stores .now)
-the-stores c = record {
-  table = the-table (c .before .before .before .before .before .before .before);
-  lone = the-lone (c .before .before);
-  stored = λ e. omega (arith, c .if2 .left, c .before .count-of .ensures);
-}
+the-stores : (c : tie.Else2) →
+    let entry = c .before .before .before .before .before .before .before .before .before .before .before .before in
+    WithStores (entry .args .stores .now)
+the-stores c =
+    let else1 = c .before .before .before .before .before .before .before in
+    record {
+      table = the-table else1;
+      lone = the-lone (c .before .before);
+      stored = λ e. omega (arith, c .if2 .left, c .before .count-of .ensures);
+    }
 
 returns : tie.Need-returns
 returns c r z st = c .refuse .ensures ∙ refused-17 r _ (sym (c .before .before .is-table .ensures) ∙ not-true _ (c .before .if1 .taken))
@@ -34,19 +42,26 @@ twin-of-requires : tie.Need-twin-of-requires
 twin-of-requires c κs = (well-made-laid _ _ (the-table (c .before .before)), zeros-blank 512)
 
 returns-2 : tie.Need-returns-2
-returns-2 c r z st = c .refuse2 .ensures ∙ refused-18 r _ (the-table (c .before .before .before .before .before .before .before)) (sym (c .before .before .before .before .twin-of .ensures .0) ∙ c .before .before .i .given .1)
+returns-2 c r z st =
+    let else1 = c .before .before .before .before .before .before .before in
+    c .refuse2 .ensures ∙ refused-18 r _ (the-table else1) (sym (c .before .before .before .before .twin-of .ensures .0) ∙ c .before .before .i .given .1)
 
 count-of-requires : tie.Need-count-of-requires
-count-of-requires c κs = well-made-laid _ _ (the-table (c .before .before .before .before .before))
+count-of-requires c κs =
+    let else1 = c .before .before .before .before .before in
+    well-made-laid _ _ (the-table else1)
 
 returns-3 : tie.Need-returns-3
-returns-3 c r z st = passed-none r _ (the-table (c .before .before .before .before .before .before .before)) (the-lone (c .before .before)) (omega (arith, c .if2 .taken, c .before .count-of .ensures))
+returns-3 c r z st =
+    let else1 = c .before .before .before .before .before .before .before in
+    passed-none r _ (the-table else1) (the-lone (c .before .before)) (omega (arith, c .if2 .taken, c .before .count-of .ensures))
 
 check-names-requires : tie.Need-check-names-requires
 check-names-requires c κs =
-    let t = c .before .before .before .before .before .before in
-    let s = t .before .before .before .before .before .before .before .before .before in
-    (s .pre .0, (s .pre .1, (the-stores (c .before .before .before), t .before .twin-of .ensures .1 (c .before .before .before .before .before .enum-told .given .1))))
+    let after-enum-told = c .before .before .before .before .before in
+    let t = after-enum-told .before in
+    let entry = t .before .before .before .before .before .before .before .before .before in
+    (entry .pre .0, (entry .pre .1, (the-stores (c .before .before .before), t .before .twin-of .ensures .1 (after-enum-told .enum-told .given .1))))
 
 pub check-in-spec : {M : Type 1} → statement M
 check-in-spec =

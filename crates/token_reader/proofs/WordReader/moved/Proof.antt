@@ -21,9 +21,13 @@ moved-spec 𝓤 H 𝓜 𝓖 𝓡 =
     begins 𝓤 H 𝓜 𝓖 𝓡 moved.ended (moved.clauses 𝓤 H (𝓖 .A) (𝓜 .mem) (𝓡 .run)) code.env #moved code.function
     (λ κs. (reader (namedLft 1 0 tt κs), (number, tt))) (code.unfolded 𝓤 H 𝓜 𝓡) (λ κs qs bounds a g ty ends.
     let made : WordReader = record { text = a .0 .text; pos = a .1 .0 } in
-    drop ! $ alloc1 ! (λ l₀. alloc1 ! (λ l₁. alloc1 ! (λ l₂. alloc1 ! (λ l₃. alloc0 ! $ params1 ! $ pass1 ! (init ! 4 refl (ty .0)) $ pass1 ! (init ! 2 refl (ty .1 .0)) $ pass0 ! $
+    drop ! $
+    alloc1 !
+    (λ l₀. alloc1 !
+    (λ l₁. alloc1 ! (λ l₂. alloc1 ! (λ l₃. alloc0 ! $ params1 ! $ pass1 ! (init ! 4 refl (ty .0)) $ pass1 ! (init ! 2 refl (ty .1 .0)) $ pass0 ! $
     assigns ! (of-opd ! (load ! (from ! (fld ! refl (stop !))) (look-in ! 4 (sub ! 0 refl (whole !))))) (from ! (stop !)) (init ! 0 refl (tt, ty .0 .1 .0)) $
-    assigns ! (agg ! (and-then ! (copies ! 0 refl) (and-then ! (copies ! 2 refl) (no-more !)))) (from ! (stop !)) (init ! 6 refl (tt, (ty .0 .1 .0, (ty .1 .0 .1, tt)))) $
+    assigns ! (agg ! (and-then ! (copies ! 0 refl) (and-then ! (copies ! 2 refl) (no-more !)))) (from ! (stop !))
+    (init ! 6 refl (tt, (ty .0 .1 .0, (ty .1 .0 .1, tt)))) $
     returns ! (look ! 6 refl) $ forget ! 0 refl $ forget ! 2 refl $ forget ! 4 refl $ forget ! 6 refl $
     move ! (6 ∷ 7 ∷ []) $ free1 ! $ move ! (4 ∷ 5 ∷ []) $ free1 ! $ move ! (2 ∷ 3 ∷ []) $ free1 ! $ free1 ! $ free0 ! $
     -- [the token; what the reader and the number own]

@@ -28,7 +28,8 @@ new-spec 𝓤 H 𝓜 𝓖 𝓡 =
     (λ κs. (text (κs .0), tt)) (code.unfolded 𝓤 H 𝓜 𝓡) (λ κs qs bounds a g ty ends.
     let made : WordReader = record { text = a .0; pos = 0 } in
     drop ! $ alloc1 ! (λ l₀. alloc1 ! (λ l₁. alloc0 ! $ params1 ! $ pass1 ! (init ! 0 refl (ty .0)) $ pass0 ! $
-    assigns ! (agg ! (and-then ! (copies ! 0 refl) (and-then ! (lit ! tt) (no-more !)))) (from ! (stop !)) (init ! 2 refl (tt, (ty .0 .1, (record { fits = lit< tt }, tt)))) $
+    assigns ! (agg ! (and-then ! (copies ! 0 refl) (and-then ! (lit ! tt) (no-more !)))) (from ! (stop !))
+    (init ! 2 refl (tt, (ty .0 .1, (record { fits = lit< tt }, tt)))) $
     returns ! (look ! 2 refl) $ forget ! 0 refl $ forget ! 2 refl $ move ! (2 ∷ 3 ∷ []) $ free1 ! $ free1 ! $ free0 ! $
     -- [the token; what text owns]: with the facts of pos it is what the reader owns
     move ! (1 ∷ []) $ fsplit ! $ move ! (1 ∷ []) $ owned ! usize (Is usize) (uint-makes 𝓤 H (𝓖 .A) (givenOf 𝓤 H 𝓜 𝓖) w64) 0 _ (refl, lit< tt) $ fjoin ! $

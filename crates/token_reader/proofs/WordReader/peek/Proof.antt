@@ -1,4 +1,5 @@
--- `token_reader::WordReader::peek` meets its contract: a walk of its MIR, by hand. The reader is taken apart, and `token_at` is called on its text and its position.
+-- `token_reader::WordReader::peek` meets its contract: a walk of its MIR, by hand. The reader is taken apart, and `token_at` is
+-- called on its text and its position.
 -- All that the proof knows of `token_at` is that it meets its contract. Assumes nothing.
 use mathlib.Core.Path.{refl}
 use mathlib.Core.List.{[], _∷_}
@@ -27,7 +28,8 @@ peek-spec 𝓤 H 𝓜 𝓖 𝓡 =
     params1 ! $ pass1 ! (init ! 6 refl (ty .0)) $ pass1 ! (init ! 4 refl (ty .1 .0)) $ pass0 ! $
     assigns ! (of-opd ! (load ! (from ! (fld ! refl (stop !))) (look-in ! 6 (sub ! 0 refl (whole !))))) (from ! (stop !)) (init ! 2 refl (tt, ty .0 .1 .0)) $
     assigns ! (of-opd ! (load ! (from ! (fld ! refl (stop !))) (look-in ! 6 (sub ! 1 refl (whole !))))) (from ! (stop !)) (init ! 0 refl (tt, ty .0 .1 .1 .0)) $
-    move ! (11 ∷ []) $ fsplit ! $ apart ! (namedLft 2 0 tt κs) (a .0) $ move ! (1 ∷ []) $ fsplit ! $ move ! (0 ∷ 3 ∷ []) $ fjoin ! $ move ! (2 ∷ 0 ∷ []) $ fjoin ! $
+    move ! (11 ∷ []) $ fsplit ! $ apart ! (namedLft 2 0 tt κs) (a .0) $ move ! (1 ∷ []) $ fsplit ! $ move ! (0 ∷ 3 ∷ []) $
+    fjoin ! $ move ! (2 ∷ 0 ∷ []) $ fjoin ! $
     move ! (1 ∷ []) $ drop ! $ move ! (11 ∷ 0 ∷ []) $
     -- [the tokens; what is passed; _4; …; _3; …; _2; …; _1; …; room for _0; …]
     asks 𝓜 𝓖 𝓡 code.env ! token-at.ended (token-at.clauses 𝓤 H (𝓖 .A) (𝓜 .mem) (𝓡 .run)) code.calls-tokens·token-at (token-at-thm.met 𝓤 H 𝓜 𝓖 𝓡)

@@ -35,7 +35,8 @@ loop-less c =
 loop-again : tie.Need-loop-again Inv-loop μ-loop
 loop-again c =
     let m = c .before .before in
-    sym (scan-on _ _ (ap nextOf (sym (m .before .before .token-at .ensures)) ∙ sym (m .before .next-of .ensures) ∙ c .before .next .given .1)) ∙ m .before .before .before .loop .inv
+    sym (scan-on _ _ (ap nextOf (sym (m .before .before .token-at .ensures)) ∙ sym (m .before .next-of .ensures) ∙ c .before .next .given .1))
+    ∙ m .before .before .before .loop .inv
 
 pub scan-spec : {M : Type 1} → statement M
 scan-spec =

@@ -31,47 +31,58 @@ loop-holds c = (omega arith, refl, refl, λ j lt. absurd (omega arith))
 
 name-of-requires : tie.Need-name-of-requires Inv-loop μ-loop
 name-of-requires c κs =
-    let s = c .before .before .before .before .before .before .before in
-    name-inside _ _ _ (c .before .node-at .ensures) (s .pre .0 .names) (omega arith) (c .if1 .taken)
+    let entry = c .before .before .before .before .before .before .before in
+    name-inside _ _ _ (c .before .node-at .ensures) (entry .pre .0 .names) (omega arith) (c .if1 .taken)
 
 find-requires : tie.Need-find-requires Inv-loop μ-loop
 find-requires c κs =
-    let s = c .before .before .before .before .before .before .before .before in
-    (well-made-laid _ _ (s .pre .1 .1 .0 .table), s .pre .1 .1 .1)
+    let entry = c .before .before .before .before .before .before .before .before in
+    (well-made-laid _ _ (entry .pre .1 .1 .0 .table), entry .pre .1 .1 .1)
 
 returns : tie.Need-returns Inv-loop μ-loop
 returns c =
-    let s = c .before .before .before .before .before .before .before .before .before .before .before in
-    let d = c .before .before .before .before .before .node-at in
-    let none = found-none _ _ (s .pre .1 .1 .0 .table) (c .before .before .find .ensures) (c .enum-told .given .1) in (
-      λ r z st. first-here _ _ _ (c .before .before .before .before .before .before .before .loop .inv .2) r z st (name-says _ _ _ _ (d .ensures) (c .before .before .before .before .if1 .taken) (c .before .before .before .name-of .ensures) none) (omega arith),
+    let after-node-at = c .before .before .before .before .before in
+    let loop = after-node-at .before .before in
+    let entry = loop .before .before .before .before in
+    let d = after-node-at .node-at in
+    let none = found-none _ _ (entry .pre .1 .1 .0 .table) (c .before .before .find .ensures) (c .enum-told .given .1) in (
+      λ r z st. first-here _ _ _ (loop .loop .inv .2) r z st
+          (name-says _ _ _ _ (d .ensures) (c .before .before .before .before .if1 .taken) (c .before .before .before .name-of .ensures) none) (omega arith),
       λ e. absurd (let z : _≡_ {A = ℕ} 0 1 = cc in omega arith),
     )
 
 mode-at-requires : tie.Need-mode-at-requires Inv-loop μ-loop
 mode-at-requires c κs =
-    let s = c .before .before .before .before .before .before .before .before .before .before .before .before in
-    (well-made-laid _ _ (s .pre .1 .1 .0 .table), found-at _ _ (s .pre .1 .1 .0 .table) (c .before .before .before .find .ensures) (c .before .k .given .1) .below)
+    let entry = c .before .before .before .before .before .before .before .before .before .before .before .before in (
+      well-made-laid _ _ (entry .pre .1 .1 .0 .table),
+      found-at _ _ (entry .pre .1 .1 .0 .table) (c .before .before .before .find .ensures) (c .before .k .given .1) .below,
+    )
 
 loop-again : tie.Need-loop-again Inv-loop μ-loop
 loop-again c =
-    let s = c .before .before .before .before .before .before .before in
+    let entry = c .before .before .before .before .before .before .before in
     let l = c .before .before .before .loop in
     let d = c .before .node-at in
     let room : l .i < length (l .grades) = omega arith in
     ⊎-elim
     (λ v.
-    let f = found-at _ _ (s .pre .1 .1 .0 .table) (v .2 .ensures) (v .4 .given .1) in (
+    let f = found-at _ _ (entry .pre .1 .1 .0 .table) (v .2 .ensures) (v .4 .given .1) in (
       omega arith,
       rw (v .8) (simp length-set (l .inv .1)),
       none-next _ _ _ (l .inv .2) (name-says _ _ _ _ (d .ensures) (v .0 .taken) (v .1 .ensures) (f .known)),
-      rw (v .8) (graded-next _ _ (l .grades) (v .7 .result) (l .inv .3) room (λ x e. rw (v .7 .ensures, v .6 .ensures (f .entry) (f .at)) (name-graded _ (s .pre .1 .1 .0 .lone) _ _ _ x (cell-what _ _ _ (d .ensures) ∙ e) (f .entry) (v .0 .taken) (v .1 .ensures) (f .here) (f .named)))),
+      rw (v .8)
+          (graded-next _ _ (l .grades) (v .7 .result) (l .inv .3) room
+          (λ x e. rw (v .7 .ensures, v .6 .ensures (f .entry) (f .at))
+          (name-graded _ (entry .pre .1 .1 .0 .lone) _ _ _ x (cell-what _ _ _ (d .ensures) ∙ e) (f .entry) (v .0 .taken)
+          (v .1 .ensures) (f .here) (f .named)))),
     ))
     (λ v. (
       omega arith,
       rw (v .2) (simp length-set (l .inv .1)),
       none-next _ _ _ (l .inv .2) (other-known _ _ _ _ (d .ensures) (v .0 .left)),
-      rw (v .2) (graded-next _ _ (l .grades) (v .1 .result) (l .inv .3) room (λ x e. v .1 .ensures _ _ _ x (cell-what _ _ _ (d .ensures) ∙ e) (v .0 .left) (s .pre .1 .1 .0 .lone))),
+      rw (v .2)
+          (graded-next _ _ (l .grades) (v .1 .result) (l .inv .3) room
+          (λ x e. v .1 .ensures _ _ _ x (cell-what _ _ _ (d .ensures) ∙ e) (v .0 .left) (entry .pre .1 .1 .0 .lone))),
     ))
     (c .if1 .came)
 
