@@ -1,9 +1,11 @@
 // Printing: the text of the rule that an image holds, into a lent buffer.
+pub mod put;
+
 ghost use mathlib.Core.Path.{_≡_};
 ghost use Rattle.print.specs.Printed.{outcome, printInto};
+use crate::put::put_rule;
 use image::node_count;
 use image_test::is_image;
-use print_put::put_rule;
 use print_text::size::text_size;
 use refusals::Refusal;
 

@@ -1,4 +1,4 @@
--- `print_put::put_rule` meets its contract: the walk over the children keeps what is written, and each child has fewer nodes than its
+-- `print::put::put_rule` meets its contract: the walk over the children keeps what is written, and each child has fewer nodes than its
 -- parent. Assumes nothing.
 use mathlib.Core.Path.{_≡_, sym, ap, _∙_}
 use mathlib.Core.Logic.{⊎-elim}
@@ -19,17 +19,17 @@ use Rattle.slices.proofs.Laws.WrittenLaws.{written-at-none, written-at-before, 
 use Rattle.print_text.specs.Print.{textOf}
 use Rattle.print_text.proofs.Laws.ChildrenLaws.{Walks, walks-start, Turn, turn, walks-next, walks-done, leaf-text}
 use Rattle.print_text.proofs.Laws.PrependLaws.{pieces-room, child-room, put-start}
-use Rattle.print_put.proofs.put_rule.Reads as put-rule
-use Rattle.print_put.proofs.put_rule.Kinds as put-rule-kinds
-use Rattle.print_put.proofs.+put_rule.Lts-put_rule as put-rule-lts
+use Rattle.print.proofs.put.put_rule.Reads as put-rule
+use Rattle.print.proofs.put.put_rule.Kinds as put-rule-kinds
+use Rattle.print.proofs.put.+put_rule.Lts-put_rule as put-rule-lts
 use Rattle.image.proofs.is_leaf.Reads as is-leaf-reads
 use Rattle.image.proofs.node_at.Reads as node-at-reads
 use Rattle.print_pieces.proofs.prepend_back.Reads as prepend-back-reads
 use Rattle.print_pieces.proofs.prepend_front.Reads as prepend-front-reads
 use Rattle.print_pieces.proofs.prepend_leaf.Reads as prepend-leaf-reads
 use Rattle.print_pieces.proofs.prepend_opening.Reads as prepend-opening-reads
-use Rattle.print_put.proofs.+put_rule.{statement}
-use Rattle.print_put.proofs.+put_rule.Tie.{close}
+use Rattle.print.proofs.put.+put_rule.{statement}
+use Rattle.print.proofs.put.+put_rule.Tie.{close}
 
 abbrev μ-put-rule : Measures 2 put-rule-kinds.ps ℕ
 μ-put-rule κs a = a .1 .1 .1 .0
