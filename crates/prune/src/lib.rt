@@ -5,21 +5,17 @@ ghost use Rattle.decide.specs.Decide.{decideOf};
 ghost use Rattle.verdict.specs.Check.{checkOf, judgeOf};
 ghost use Rattle.print.specs.Printed.{printInto};
 ghost use Rattle.answers.specs.Answers.{ofReading, ofDecision, ofVerdict, ofPrinting};
-use answers::answer;
+use answers::of_decision;
+use answers::of_printing;
+use answers::of_reading;
 use answers::of_verdict;
-use decide::Decision;
-use print::Printing;
-use read::Reading;
 
 // Reads a text into a rule image; the value is the image's length.
 #[no_mangle]
 pub extern "C" fn prune_read(text: &[u8], image: &mut [u8]) -> u64
     ensures { λ r. ⌜ (r ≡ ofReading (readInto (now (text .entry)) (now (image .entry)) .answer)) × (now (image .exit) ≡ readInto (now (text .entry)) (now (image .entry)) .image) ⌝ }
 {
-    match read::read(text, image) {
-        Reading::Read(size) => answer(0, size),
-        Reading::Refused(f) => answer(f.number, f.place),
-    }
+    of_reading(read::read(text, image))
 }
 
 // Decides on an image; the value is 1 for evict, 0 for keep.
@@ -27,11 +23,7 @@ pub extern "C" fn prune_read(text: &[u8], image: &mut [u8]) -> u64
 pub extern "C" fn prune_decide(image: &[u8], stores: &[u8], age: u64, list: &[u8]) -> u64
     ensures { λ r. ⌜ r ≡ ofDecision (decideOf (now (image .entry)) (now (stores .entry)) age (now (list .entry))) ⌝ }
 {
-    match decide::decide(image, stores, age, list) {
-        Decision::Evict => 1,
-        Decision::Keep => 0,
-        Decision::Refused(f) => answer(f.number, f.place),
-    }
+    of_decision(decide::decide(image, stores, age, list))
 }
 
 // Checks the rule of an image; the value is 0 for a pass.
@@ -55,8 +47,5 @@ pub extern "C" fn prune_judge(text: &[u8], stores: &[u8]) -> u64
 pub extern "C" fn prune_print(image: &[u8], text: &mut [u8]) -> u64
     ensures { λ r. ⌜ (r ≡ ofPrinting (printInto (now (image .entry)) (now (text .entry)) .answer)) × (now (text .exit) ≡ printInto (now (image .entry)) (now (text .entry)) .text) ⌝ }
 {
-    match print::print(image, text) {
-        Printing::Printed(size) => answer(0, size),
-        Printing::Refused(f) => answer(f.number, f.place),
-    }
+    of_printing(print::print(image, text))
 }

@@ -1,5 +1,5 @@
 -- An answer of a call that fills a buffer, and the buffer, from what the call is proved to leave. Assumes nothing.
-use mathlib.Core.Path.{_≡_, sym, ap, _∙_}
+use mathlib.Core.Path.{_≡_, ap, _∙_}
 use mathlib.Core.List.{List}
 use Prim.Native.Nat.{ℕ}
 use Rattle.read.specs.declared.Reading.{Reading}
@@ -8,10 +8,10 @@ use Rattle.print.specs.declared.Printing.{Printing}
 use Rattle.print.specs.Printed as printing
 use Rattle.answers.specs.Answers.{ofReading, ofPrinting}
 
-pub read-answer : {o : reading.Outcome} {a b : Reading} {i : List ℕ} {n : ℕ} → reading.outcome a i ≡ o → a ≡ b → n ≡ ofReading b →
+pub read-answer : {o : reading.Outcome} {a : Reading} {i : List ℕ} {n : ℕ} → reading.outcome a i ≡ o → n ≡ ofReading a →
     (n ≡ ofReading (o .answer)) × (i ≡ o .image)
-read-answer e p q = (q ∙ ap ofReading (sym p ∙ ap (λ (x : reading.Outcome). x .answer) e), ap (λ (x : reading.Outcome). x .image) e)
+read-answer e q = (q ∙ ap (λ (x : reading.Outcome). ofReading (x .answer)) e, ap (λ (x : reading.Outcome). x .image) e)
 
-pub print-answer : {o : printing.Outcome} {a b : Printing} {t : List ℕ} {n : ℕ} → printing.outcome a t ≡ o → a ≡ b →
-    n ≡ ofPrinting b → (n ≡ ofPrinting (o .answer)) × (t ≡ o .text)
-print-answer e p q = (q ∙ ap ofPrinting (sym p ∙ ap (λ (x : printing.Outcome). x .answer) e), ap (λ (x : printing.Outcome). x .text) e)
+pub print-answer : {o : printing.Outcome} {a : Printing} {t : List ℕ} {n : ℕ} → printing.outcome a t ≡ o → n ≡ ofPrinting a →
+    (n ≡ ofPrinting (o .answer)) × (t ≡ o .text)
+print-answer e q = (q ∙ ap (λ (x : printing.Outcome). ofPrinting (x .answer)) e, ap (λ (x : printing.Outcome). x .text) e)
