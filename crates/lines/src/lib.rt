@@ -1,9 +1,10 @@
 // Lines for a person: numbers, meanings, and a text with a mark under a place.
 ghost use mathlib.Core.Path.{_≡_};
+ghost use mathlib.Core.List.{_++_};
 ghost use Prim.Native.Nat.{_+_, _≤_, _*_};
 ghost use lib.ListN.{length, replicate};
-ghost use Rattle.slices.specs.Text.{WrittenAt};
-ghost use Rattle.lines.specs.Lines.{numbersLine, trimmed, meaningLine, shown, shownAll, markedLine};
+ghost use Rattle.slices.specs.Text.{bytes, WrittenAt};
+ghost use Rattle.lines.specs.Lines.{lineEnd, numbersLine, trimmed, meaningLine, shown, shownAll, markedLine};
 use decimal::digits::append_digits;
 use refusals::row_of;
 use slices::append;
@@ -17,9 +18,10 @@ pub fn append_numbers(text: &mut [u8], at: usize, word: &[u8], a: u64, b: u64) -
 {
     let word_end = append(text, at, word);
     let a_end = append_digits(text, word_end, a);
-    let blank_end = append(text, a_end, b" ");
-    let b_end = append_digits(text, blank_end, b);
-    append(text, b_end, b"\n")
+    text[a_end] = b' ';
+    let b_end = append_digits(text, a_end + 1, b);
+    text[b_end] = b'\n';
+    b_end + 1
 }
 
 // Appends a piece without the blanks at its end.
@@ -40,9 +42,11 @@ pub fn append_meaning(text: &mut [u8], at: usize, number: u8) -> usize
     let word = row.word;
     let meaning = row.meaning;
     let word_end = append_trimmed(text, at, &word);
-    let colon_end = append(text, word_end, b": ");
-    let meaning_end = append_trimmed(text, colon_end, &meaning);
-    append(text, meaning_end, b"\n")
+    text[word_end] = b':';
+    text[word_end + 1] = b' ';
+    let meaning_end = append_trimmed(text, word_end + 2, &meaning);
+    text[meaning_end] = b'\n';
+    meaning_end + 1
 }
 
 // A byte as it is shown: a tab as a blank, and any other byte that does not print as a question mark.
@@ -74,17 +78,20 @@ pub fn append_shown(text: &mut [u8], at: usize, piece: &[u8]) -> usize
     at + i
 }
 
-// Appends n blanks.
-fn append_blanks(text: &mut [u8], at: usize, n: usize) -> usize
-    requires { ⌜ at + n ≤ length (now text) ⌝ }
-    ensures { λ r. ⌜ WrittenAt (now (text .entry)) (now (text .exit)) at r (replicate n 32) ⌝ }
+// Appends a line with a mark after n blanks.
+fn append_mark(text: &mut [u8], at: usize, n: usize) -> usize
+    requires { ⌜ at + n + 2 ≤ length (now text) ⌝ }
+    ensures { λ r. ⌜ WrittenAt (now (text .entry)) (now (text .exit)) at r (replicate n 32 ++ (bytes "^" ++ lineEnd)) ⌝ }
 {
     let mut i = 0;
     while i < n {
         text[at + i] = b' ';
         i += 1;
     }
-    at + i
+    let mark = at + i;
+    text[mark] = b'^';
+    text[mark + 1] = b'\n';
+    mark + 2
 }
 
 // The line of a rule that has a place in it, and a line with a mark under the place.
@@ -95,7 +102,6 @@ pub fn append_marked(text: &mut [u8], at: usize, rule: &[u8], place: usize) -> u
     let start = end_of_last(rule, place, b'\n', b'\n');
     let stop = mark_at(rule, place, b'\n');
     let line_end = append_shown(text, at, &rule[start..stop]);
-    let below = append(text, line_end, b"\n");
-    let mark = append_blanks(text, below, place - start);
-    append(text, mark, b"^\n")
+    text[line_end] = b'\n';
+    append_mark(text, line_end + 1, place - start)
 }

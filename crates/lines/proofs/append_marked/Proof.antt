@@ -1,13 +1,12 @@
--- `lines::append_marked` meets its contract: the line of the place, and below it the mark, four parts in a row. Assumes nothing.
-use mathlib.Core.List.{append-assoc}
-use Prim.Native.Nat.{_≤_}
+-- `lines::append_marked` meets its contract: the line of the place, and below it the line of the mark. Assumes nothing.
+use Prim.Native.Nat.{_+_, _-_, _≤_}
 use native.Mathlib.Omega.{arith}
 use borrow.Author.Needs.{needs}
-use lib.ListN.{length, length-replicate}
+use lib.ListN.{length, length-set}
 use Rattle.slices.specs.Text.{part}
 use Rattle.slices.proofs.Laws.WrittenLaws.{written-at-after}
 use Rattle.lines.specs.Lines.{markedLine}
-use Rattle.lines.proofs.Laws.LinesLaws.{LineOf, line-of}
+use Rattle.lines.proofs.Laws.LinesLaws.{LineOf, line-of, written-byte}
 use Rattle.lines.proofs.append_marked.Statement.{statement}
 use Rattle.lines.proofs.append_marked.Tie as tie
 
@@ -28,40 +27,28 @@ part-append-shown-end c = omega (arith, the-line (c .before))
 append-shown-requires : tie.Need-append-shown-requires
 append-shown-requires c κs = omega (arith, the-line (c .before .before))
 
-append-requires : tie.Need-append-requires
-append-requires c κs =
-    let after-mark-at = c .before .before .before .before .before .before .before in
-    omega (arith, the-line after-mark-at)
-
-sub-append-blanks : tie.Need-sub-append-blanks
-sub-append-blanks c =
-    let after-mark-at = c .before .before .before .before .before .before .before .before .before .before .before in
-    omega (arith, the-line after-mark-at)
-
-append-blanks-requires : tie.Need-append-blanks-requires
-append-blanks-requires c κs =
-    let after-mark-at = c .before .before .before .before .before .before .before .before .before .before .before in
-    omega (arith, the-line after-mark-at)
-
-append-requires-2 : tie.Need-append-requires-2
-append-requires-2 c κs =
-    let after-mark-at = c .before .before .before .before .before .before .before .before .before .before .before .before .before .before .before .before in
-    omega (arith, the-line after-mark-at, simp length-replicate at (c .before .before .before .before .append-blanks .ensures .ends))
+-- there is room for a line end, and the mark's line after it
+room : (c : tie.After-slice-known2) →
+    let e = c .before .before in
+    let after-mark-at = e .before .before .before in
+    let start = after-mark-at .before .end-of-last .result in
+    let place = after-mark-at .before .before .before .before .args .place in
+    (start ≤ place) × (e .append-shown .result + (place - start) + 3 ≤ length (e .append-shown .last .0))
+room c =
+    let l = the-line (c .before .before .before .before .before) in
+    (l .from, omega (arith, l))
 
 returns : tie.Need-returns
 unfolding part markedLine
 returns c =
-    let e₄ = c .before .before in
-    let e₃ = e₄ .before .before .before .before .before in
-    let e₂ = e₃ .before .before .before .before in
-    let e₁ = e₂ .before .before .before .before .before in
+    let e₂ = c .before .before in
+    let after-line = e₂ .before .before in
+    let e₁ = after-line .before .before in
     let after-mark-at = e₁ .before .before .before in
-    let a = after-mark-at .before .before .before .before .args in
-    let h : a .at ≤ length (a .text .now) = omega arith in
+    let r = room after-line in
     rw (← after-mark-at .before .end-of-last .ensures, ← after-mark-at .mark-at .ensures)
-    (simp append-assoc
-    at (written-at-after h
-    (written-at-after h (written-at-after h (e₁ .append-shown .ensures) (e₂ .append .ensures)) (e₃ .append-blanks .ensures)) (e₄ .append2 .ensures)))
+    (written-at-after (omega arith) (e₁ .append-shown .ensures)
+    (written-at-after (omega arith) (written-byte _ _ _ (omega arith)) (e₂ .append-mark .ensures)))
 
 pub append-marked-spec : {M : Type 1} → statement M
 append-marked-spec =
@@ -73,11 +60,9 @@ append-marked-spec =
     part-append-shown-start
     part-append-shown-end
     append-shown-requires
-    (λ c. search needs)  -- slice-aggregate-append
-    append-requires
-    sub-append-blanks
-    append-blanks-requires
-    (λ c. search needs)  -- slice-aggregate-append-2
-    append-requires-2
-    (λ c. search needs)  -- same-length
+    (λ c. omega (arith, room c))  -- slice-write-text
+    (λ c. omega (arith, room (c .before)))  -- add-append-mark
+    (λ c. room (c .before) .0)  -- sub-append-mark
+    (λ c κs. simp length-set (omega (arith, room (c .before))))  -- append-mark-requires
+    (λ c. omega (arith, simp length-set at (c .before .text2 .given)))  -- same-length
     returns)

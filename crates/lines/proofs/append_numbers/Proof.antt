@@ -1,44 +1,41 @@
 -- `lines::append_numbers` meets its contract: five parts in a row. Assumes nothing.
-use mathlib.Core.List.{append-assoc}
-use Prim.Native.Nat.{_≤_}
+use Prim.Native.Nat.{_+_, _≤_}
 use native.Mathlib.Omega.{arith}
 use borrow.Author.Needs.{needs}
-use lib.ListN.{length}
+use lib.ListN.{length, length-set}
 use Rattle.slices.proofs.Laws.WrittenLaws.{written-at-after}
 use Rattle.decimal.proofs.Laws.DigitsLaws.{digits-short}
+use Rattle.lines.proofs.Laws.LinesLaws.{written-byte}
 use Rattle.lines.proofs.append_numbers.Statement.{statement}
 use Rattle.lines.proofs.append_numbers.Tie as tie
 
-append-requires-2 : tie.Need-append-requires-2
-append-requires-2 c κs =
-    let entry = c .before .before .before .before .before .before .before .before .before .before .before .before in
+-- there is room for the byte after the first number, and for the one after the second
+room-a : (c : tie.After-slice-known3) →
+    let e = c .before .before in
+    e .append-digits .result + 22 ≤ length (e .append-digits .last .0)
+room-a c =
+    let entry = c .before .before .before .before .before .before .before .before .before .before in
     omega (arith, digits-short (entry .args .a))
 
-append-digits-requires-2 : tie.Need-append-digits-requires-2
-append-digits-requires-2 c κs =
-    let entry = c .before .before .before .before .before .before .before .before .before .before .before .before .before .before .before .before in
-    omega (arith, digits-short (entry .args .a))
-
-append-requires-3 : tie.Need-append-requires-3
-append-requires-3 c κs =
-    let a = c .before .before .before .before .before .before .before .before .before .before .before .before .before .before
-    .before .before .before .before .before .before .before .args in
-    omega (arith, digits-short (a .a), digits-short (a .b))
+room-b : (c : tie.After-slice-known4) →
+    let e = c .before .before in
+    e .append-digits2 .result + 1 ≤ length (e .append-digits2 .last .0)
+room-b c =
+    let after-a = c .before .before .before .before in
+    let entry = after-a .before .before .before .before .before .before .before .before .before .before in
+    omega (arith, digits-short (entry .args .a), digits-short (entry .args .b), room-a after-a, simp length-set at (c .before .text3 .given))
 
 returns : tie.Need-returns
 returns c =
-    let e₅ = c .before .before in
-    let e₄ = e₅ .before .before .before .before .before in
-    let e₃ = e₄ .before .before .before .before in
-    let e₂ = e₃ .before .before .before .before .before in
+    let e₃ = c .before .before in
+    let after-a = e₃ .before .before in
+    let e₂ = after-a .before .before in
     let e₁ = e₂ .before .before .before .before in
-    let a = e₁ .before .before .before .before .args in
-    let h : a .at ≤ length (a .text .now) = omega arith in
-    simp append-assoc
-    at (written-at-after h
-    (written-at-after h
-    (written-at-after h (written-at-after h (e₁ .append .ensures) (e₂ .append-digits .ensures)) (e₃ .append2 .ensures)) (e₄ .append-digits2 .ensures))
-    (e₅ .append3 .ensures))
+    let r = room-a after-a in
+    written-at-after (omega arith) (e₁ .append .ensures)
+    (written-at-after (omega arith) (e₂ .append-digits .ensures)
+    (written-at-after (omega arith) (written-byte _ _ _ (omega arith))
+    (written-at-after (simp length-set (omega arith)) (e₃ .append-digits2 .ensures) (written-byte _ _ _ (room-b c)))))
 
 pub append-numbers-spec : {M : Type 1} → statement M
 append-numbers-spec =
@@ -46,10 +43,10 @@ append-numbers-spec =
     (tie.spec
     (λ c κs. search needs)  -- append-requires
     (λ c κs. search needs)  -- append-digits-requires
-    (λ c. search needs)  -- slice-aggregate-append
-    append-requires-2
-    append-digits-requires-2
-    (λ c. search needs)  -- slice-aggregate-append-2
-    append-requires-3
-    (λ c. search needs)  -- same-length
+    (λ c. omega (arith, room-a c))  -- slice-write-text
+    (λ c. omega (arith, room-a (c .before)))  -- add-append-digits
+    (λ c κs. simp length-set (omega (arith, room-a (c .before))))  -- append-digits-requires-2
+    (λ c. omega (arith, room-b c))  -- slice-write-text-2
+    (λ c. omega (arith, room-b c, simp length-set at (c .before .text3 .given)))  -- add-result
+    (λ c. simp length-set (omega (arith, simp length-set at (c .before .text3 .given))))  -- same-length
     returns)
