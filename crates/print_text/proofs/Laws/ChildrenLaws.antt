@@ -32,6 +32,13 @@ unfolding textOf upTo
 up-to nil j = refl
 up-to (more rs r) j = refl
 
+-- the last of these, taken apart by its kind and the combinator's
+up-next : {kind child : ℕ} {b : Bool} (o : List ℕ) (rs : Rules) (q : Rule) (j : Join) (last : Bool) (t : List ℕ) →
+    kind ≡ joinKind j → child ≡ kindOf q → b ≡ false →
+    o ++ (upTo (more rs q) j last ++ t) ≡ o ++ (upTo rs j b ++ (frontOf kind child ++ (textOf q ++ (backOf kind child last ++ t))))
+unfolding upTo
+up-next o rs q j last t x y z = rw (x, y, z, ← up-to rs j, child-of j q (textOf q) last) (simp append-assoc)
+
 module _ (s : List ℕ) (n : ℕ) where
   -- ρ has the k nodes from `from` on, and its root this kind and argument: the walk over its children has come to `end`, where the first
   -- ones, `rest`, are left, and has passed a part of its text
@@ -100,7 +107,7 @@ module _ (s : List ℕ) (n : ℕ) where
   module _ {kind arg : ℕ} (from k end : ℕ) {P : List ℕ → Type 0} (ws : Walks kind arg from k end P) where
     module _ (le : end ≤ from + k - 1) (lt : from < end) {d : Node} (read : d ≡ nodeAt s n (end - 1)) where
       turn-of : (ρ : Rule) (rest : Rules) (passed : List ℕ) → Walk kind arg from k end ρ rest passed → P passed → Turn kind arg from k end P ρ d
-      unfolding size EncodedAt upTo
+      unfolding size EncodedAt
       turn-of ρ nil passed w h = absurd (omega (arith, w .ends))
       turn-of ρ (more rest q) passed w h =
           let ends = w .ends in
@@ -125,8 +132,9 @@ module _ (s : List ℕ) (n : ℕ) where
               kinded = w .kinded;
               standing = w .standing .0;
               ends = p;
-              text = rw (ne-eqb (end - d .size) (from + k - 1) (λ f. omega arith), ← up-to rest j, x, w .kinded)
-                  (w .text ∙ rw (child-of j q (textOf q) (eqb end (from + k - 1)), w .kinded) (simp append-assoc));
+              text = w .text
+                  ∙ up-next (openingOf kind arg) rest q j (eqb end (from + k - 1)) passed (w .kinded) x
+                  (ne-eqb (end - d .size) (from + k - 1) (λ f. omega arith));
             };
           }
 
