@@ -4,7 +4,7 @@ ghost use Prim.Native.Nat.{_≤_};
 ghost use lib.ListN.{length};
 ghost use Rattle.rules.specs.Rule.{Leaf};
 ghost use Rattle.image.specs.Kinds.{namedKind};
-ghost use Rattle.image.specs.Decode.{aLeaf, meaning};
+ghost use Rattle.image.specs.Decode.{leafMeaning, meaning};
 ghost use Rattle.image.specs.Inner.Subtree.{ValidSubtree, NameInside};
 ghost use Rattle.evaluate.specs.Evict.{leafSays};
 ghost use Rattle.evaluate.specs.Inner.Known.{Prepared, envIn, Said};
@@ -33,7 +33,7 @@ fn leaf_says(
     marks: &[u8; 64],
 ) -> bool
     requires { ⌜ (kind ≡ namedKind → NameInside (now image) n arg) × Prepared (now stores) (now list) (now starts) (now slots) (now marks) ⌝ }
-    ensures { λ r. ⌜ ((l : Leaf) → meaning (now (image .entry)) n kind arg ≡ aLeaf l → r ≡ leafSays l (envIn (now (list .entry)) view)) ⌝ }
+    ensures { λ r. ⌜ ((l : Leaf) → meaning (now (image .entry)) n kind arg ≡ leafMeaning l → r ≡ leafSays l (envIn (now (list .entry)) view)) ⌝ }
 {
     match kind {
         image::NAMED => is_confirmed(name_of(image, n, arg), stores, list, starts, slots, marks),

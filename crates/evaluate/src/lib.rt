@@ -8,7 +8,7 @@ ghost use Prim.Native.Nat.{ℕ, _≤_};
 ghost use lib.ListN.{length};
 ghost use Rattle.rules.specs.Rule.{Join, Rule};
 ghost use Rattle.rules.specs.Rule.{size as sizeOf};
-ghost use Rattle.image.specs.Decode.{aJoin, meaning, cellAt};
+ghost use Rattle.image.specs.Decode.{joinMeaning, meaning, cellAt};
 ghost use Rattle.image.specs.Inner.EncodedAt.{EncodedAt};
 ghost use Rattle.image.specs.Inner.Subtree.{NodeRow};
 ghost use Rattle.evaluate.specs.Evict.{joinSays, countTrue};
@@ -17,7 +17,7 @@ use image::node_at;
 
 // What a combinator says if `yes` of its `total` children say evict: each kind by its own line.
 fn join_says(kind: u32, arg: u64, yes: u64, total: u64) -> bool
-    ensures { λ r. ⌜ ((s : List ℕ) (n : ℕ) (j : Join) (bs : List Bool) → meaning s n kind arg ≡ aJoin j → countTrue bs ≡ yes → length bs ≡ total → r ≡ joinSays j bs) ⌝ }
+    ensures { λ r. ⌜ ((s : List ℕ) (n : ℕ) (j : Join) (bs : List Bool) → meaning s n kind arg ≡ joinMeaning j → countTrue bs ≡ yes → length bs ≡ total → r ≡ joinSays j bs) ⌝ }
 {
     match kind {
         image::AT_LEAST => arg <= yes,

@@ -35,20 +35,20 @@ nodeAt s n i = record {
 
 -- what a node is: a leaf, a combinator, or nothing that a rule has
 pub data Meaning : Type 0 where
-  aLeaf : Leaf → Meaning
-  aJoin : Join → Meaning
+  leafMeaning : Leaf → Meaning
+  joinMeaning : Join → Meaning
   nothing : Meaning
 
 abbrev pub argument0 : ℕ → Join → Meaning
-argument0 zero j = aJoin j
+argument0 zero j = joinMeaning j
 argument0 (suc k) j = nothing
 
 -- by its kind and its argument, in an image of n nodes
 unfoldable pub meaning : List ℕ → ℕ → ℕ → ℕ → Meaning
-meaning s n zero a = aLeaf (named (nameOf s n a))
-meaning s n (suc zero) a = aLeaf (olderThan a)
-meaning s n (suc (suc zero)) a = aLeaf (readable a)
-meaning s n (suc (suc (suc zero))) a = aJoin (atLeast a)
+meaning s n zero a = leafMeaning (named (nameOf s n a))
+meaning s n (suc zero) a = leafMeaning (olderThan a)
+meaning s n (suc (suc zero)) a = leafMeaning (readable a)
+meaning s n (suc (suc (suc zero))) a = joinMeaning (atLeast a)
 meaning s n (suc (suc (suc (suc zero)))) a = argument0 a all
 meaning s n (suc (suc (suc (suc (suc zero))))) a = argument0 a any
 meaning s n (suc (suc (suc (suc (suc (suc k)))))) a = nothing
@@ -80,8 +80,8 @@ close j (more rs r) m = when (leb (size r) m) (bind (split rs (m - size r)) (λ 
 -- the rules that nodes make, after one node more: "Kinds 0 to 2 have size 1"
 unfoldable pub place : Meaning → ℕ → Rules → Option Rules
 unfolding close
-place (aLeaf l) s rs = when (eqb s 1) (some (more rs (leaf l)))
-place (aJoin j) s rs = close j rs (s - 1)
+place (leafMeaning l) s rs = when (eqb s 1) (some (more rs (leaf l)))
+place (joinMeaning j) s rs = close j rs (s - 1)
 place nothing s rs = none
 
 -- the rules that the first i nodes make, in order

@@ -12,13 +12,13 @@ use Rattle.store_args.specs.declared.Fault.{Fault}
 use Rattle.store_args.specs.declared.Fault.the-variants.{NoColon, NoMode, LongName, ForeignName}
 
 -- arguments are given one after the other, each with a 0 after it
-abbrev onto : ℕ → List (List ℕ) → List (List ℕ)
-onto b [] = (b ∷ []) ∷ []
-onto b (w ∷ ws) = (b ∷ w) ∷ ws
+abbrev ontoFirst : ℕ → List (List ℕ) → List (List ℕ)
+ontoFirst b [] = (b ∷ []) ∷ []
+ontoFirst b (w ∷ ws) = (b ∷ w) ∷ ws
 
 unfoldable pub argumentsIn : List ℕ → List (List ℕ)
 argumentsIn [] = []
-argumentsIn (b ∷ s) = let ws = argumentsIn s in cond (eqb b 0) ([] ∷ ws) (onto b ws)
+argumentsIn (b ∷ s) = let ws = argumentsIn s in cond (eqb b 0) ([] ∷ ws) (ontoFirst b ws)
 
 -- a store, or what is wrong with an argument
 pub data Given : Type 0 where

@@ -6,7 +6,7 @@ ghost use lib.ListN.{length};
 ghost use Rattle.rules.specs.Rule.{Leaf, Rule};
 ghost use Rattle.rules.specs.Rule.{size as sizeOf};
 ghost use Rattle.image.specs.Kinds.{namedKind};
-ghost use Rattle.image.specs.Decode.{aLeaf, meaning, cellAt};
+ghost use Rattle.image.specs.Decode.{leafMeaning, meaning, cellAt};
 ghost use Rattle.image.specs.Inner.EncodedAt.{EncodedAt};
 ghost use Rattle.image.specs.Inner.Subtree.{ValidSubtree};
 ghost use Rattle.store_table.specs.Stores.{Entry, twinOf, entriesIn};
@@ -25,7 +25,7 @@ use store_table::mode_at;
 
 // The grade of a leaf that is no name: 2 where it says evict with nothing confirmed, else 0. Each kind by its own line.
 fn test_grade(kind: u32, arg: u64) -> u8
-    ensures { λ r. ⌜ ((s : List ℕ) (n : ℕ) (es : List Entry) (l : Leaf) → meaning s n kind arg ≡ aLeaf l → (kind ≡ namedKind → ⊥) → twinOf es ≡ Twin.No → Graded l es r) ⌝ }
+    ensures { λ r. ⌜ ((s : List ℕ) (n : ℕ) (es : List Entry) (l : Leaf) → meaning s n kind arg ≡ leafMeaning l → (kind ≡ namedKind → ⊥) → twinOf es ≡ Twin.No → Graded l es r) ⌝ }
 {
     match kind {
         image::OLDER_THAN => {

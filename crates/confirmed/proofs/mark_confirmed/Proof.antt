@@ -33,7 +33,7 @@ loop-holds c =
     )
 
 length-at-requires : tie.Need-length-at-requires Inv-loop μ-loop
-length-at-requires c κs = let l = c .before .loop in (l .inv .0 .laid, (l .inv .0 .counted, omega arith))
+length-at-requires c κs = let l = c .before .loop in (l .inv .0 .in-bounds, (l .inv .0 .counted, omega arith))
 
 add-find : tie.Need-add-find Inv-loop μ-loop
 add-find c = omega (arith, inside c)

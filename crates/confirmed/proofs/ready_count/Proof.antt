@@ -5,13 +5,13 @@ use Prim.Native.Nat.{_-_}
 use native.Mathlib.Omega.{arith}
 use borrow.Author.Needs.{needs}
 use Rattle.store_table.specs.Stores.{entriesIn, isReadable}
-use Rattle.store_table.proofs.Laws.EntriesLaws.{Ready, ready-start, ready-end, ready-skip, ready-no, ready-yes}
+use Rattle.store_table.proofs.Laws.EntriesLaws.{ReadySoFar, ready-start, ready-end, ready-skip, ready-no, ready-yes}
 use Rattle.store_table.proofs.Laws.WalkLaws.{length-entries, entry-there}
 use Rattle.confirmed.proofs.ready_count.Statement.{statement}
 use Rattle.confirmed.proofs.ready_count.Tie as tie
 
 abbrev Inv-loop : tie.InvT-loop
-Inv-loop stores marks count k₀ ready₀ k ready = Ready (entriesIn stores) marks k ready
+Inv-loop stores marks count k₀ ready₀ k ready = ReadySoFar (entriesIn stores) marks k ready
 
 abbrev μ-loop : tie.MeasureT-loop
 μ-loop stores marks count k₀ ready₀ k ready = count - k

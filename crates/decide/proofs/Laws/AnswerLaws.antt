@@ -34,9 +34,9 @@ module _ (i s : List ℕ) (a : ℕ) (l : List ℕ) where
       refused-18 e = let (r, p) = isSome-true (decode i) image in sym (decide-18 i s a l p table e)
 
       -- of which no two share a name
-      module _ (lone : twinOf (entriesIn s) ≡ No) where
+      module _ (no-twin : twinOf (entriesIn s) ≡ No) where
         pub refused-19 : isList l ≡ false → Refused (refusal badConfirmedList 0) ≡ decideOf i s a l
-        refused-19 e = let (r, p) = isSome-true (decode i) image in sym (decide-19 i s a l p table lone e)
+        refused-19 e = let (r, p) = isSome-true (decode i) image in sym (decide-19 i s a l p table no-twin e)
 
         -- b is the answer of whatever rule has all n nodes
         pub answered : {n ready : ℕ} → isList l ≡ true → n ≡ nodeCountIn i →
@@ -47,4 +47,4 @@ module _ (i s : List ℕ) (a : ℕ) (l : List ℕ) where
             let (r, e) = isSome-true (decode i) image in
             let w = decode-whole i p e in
             let q = rw c at (says r (w .sized) (w .stands)) in
-            ap decisionOf q ∙ sym (decide-says i s a l e table lone is)
+            ap decisionOf q ∙ sym (decide-says i s a l e table no-twin is)

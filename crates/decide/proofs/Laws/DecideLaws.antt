@@ -38,14 +38,14 @@ module _ (i s : List ℕ) (a : ℕ) (l : List ℕ) where
       decide-18 e = rw (image, table, e)
 
       -- of which no two share a name
-      module _ (lone : twinOf (entriesIn s) ≡ No) where
+      module _ (no-twin : twinOf (entriesIn s) ≡ No) where
         pub decide-19 : isList l ≡ false → decideOf i s a l ≡ Refused (refusal badConfirmedList 0)
         unfolding decideOf
-        decide-19 e = rw (image, table, lone, e)
+        decide-19 e = rw (image, table, no-twin, e)
 
         pub decide-says : isList l ≡ true → decideOf i s a l ≡ decisionOf (evict r (envOf (entriesIn s) a (listNames l)))
         unfolding decideOf
-        decide-says e = rw (image, table, lone, e)
+        decide-says e = rw (image, table, no-twin, e)
 
 -- a rule's own image
 pub decide-image : (r : Rule) → Fits r → (s : List ℕ) (a : ℕ) (l : List ℕ) → decideOf (encode r) s a l ≡ decideRule (some r) s a l

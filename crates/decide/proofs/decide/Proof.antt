@@ -7,7 +7,7 @@ use borrow.Author.Tests.{not-true, not-false}
 use Rattle.image.specs.Decode.{decode}
 use Rattle.image.specs.Inner.Valid.{isSome}
 use Rattle.store_table.specs.Stores.{isTable, isList, entriesIn, twinOf}
-use Rattle.store_table.proofs.Laws.StoresLaws.{well-made-laid}
+use Rattle.store_table.proofs.Laws.StoresLaws.{well-made-in-bounds}
 use Rattle.store_table.proofs.Laws.BlankLaws.{zeros-blank}
 use Rattle.store_table.specs.declared.Twin.the-variants.{No}
 use Rattle.decide.specs.Decide.{decisionOf, decideOf}
@@ -27,10 +27,10 @@ the-table : (c : tie.Else2) →
     isTable (entry .args .stores .now) ≡ true
 the-table c = sym (c .before .is-table .ensures) ∙ not-false _ (c .if2 .left)
 
-the-lone : (c : tie.After-enum-told) →
+the-no-twin : (c : tie.After-enum-told) →
     let entry = c .before .before .before .before .before .before .before .before .before .before .before .before in
     twinOf (entriesIn (entry .args .stores .now)) ≡ No
-the-lone c = sym (c .before .before .twin-of .ensures .0) ∙ c .enum-told .given .1
+the-no-twin c = sym (c .before .before .twin-of .ensures .0) ∙ c .enum-told .given .1
 
 the-list : (c : tie.Else3) →
     let entry = c .before .before .before .before .before .before .before .before .before .before .before .before .before .before in
@@ -47,7 +47,7 @@ returns-2 c =
     ∙ refused-17 _ _ _ _ (the-image (c .before .before .before)) (sym (c .before .before .is-table .ensures) ∙ not-true _ (c .before .if2 .taken))
 
 twin-of-requires : tie.Need-twin-of-requires
-twin-of-requires c κs = (well-made-laid _ _ (the-table (c .before .before)), zeros-blank 512)
+twin-of-requires c κs = (well-made-in-bounds _ _ (the-table (c .before .before)), zeros-blank 512)
 
 returns-3 : tie.Need-returns-3
 returns-3 c =
@@ -61,7 +61,7 @@ returns-4 c =
     let else2 = c .before .before .before .before .before .before .before .before in
     let else1 = else2 .before .before in
     c .refuse4 .ensures
-    ∙ refused-19 _ _ _ _ (the-image else1) (the-table else2) (the-lone (c .before .before .before))
+    ∙ refused-19 _ _ _ _ (the-image else1) (the-table else2) (the-no-twin (c .before .before .before))
     (sym (c .before .before .is-list .ensures) ∙ not-true _ (c .before .if3 .taken))
 
 mark-confirmed-requires : tie.Need-mark-confirmed-requires
@@ -70,10 +70,10 @@ mark-confirmed-requires c κs =
     let after-twin-of = after-enum-told .before .before in
     let else2 = after-twin-of .before .before .before in
     let twin = after-twin-of .twin-of in (
-      well-made-laid _ _ (the-table else2),
+      well-made-in-bounds _ _ (the-table else2),
       (
-        well-made-laid _ _ (the-list (c .before .before .before)),
-        (the-lone after-enum-told, (twin .ensures .1 (after-enum-told .enum-told .given .1), zeros-blank 64)),
+        well-made-in-bounds _ _ (the-list (c .before .before .before)),
+        (the-no-twin after-enum-told, (twin .ensures .1 (after-enum-told .enum-told .given .1), zeros-blank 64)),
       ),
     )
 
@@ -85,7 +85,7 @@ node-count-requires c κs =
 ready-count-requires : tie.Need-ready-count-requires
 ready-count-requires c κs =
     let else2 = c .before .before .before .before .before .before .before .before .before .before .before .before .before in
-    well-made-laid _ _ (the-table else2)
+    well-made-in-bounds _ _ (the-table else2)
 
 rule-says-requires : tie.Need-rule-says-requires
 rule-says-requires c κs =
@@ -101,8 +101,8 @@ rule-says-requires c κs =
       (
         image-few _ (the-image else1) n,
         record {
-          table = well-made-laid _ _ (the-table else2);
-          listed = well-made-laid _ _ (the-list else3);
+          table = well-made-in-bounds _ _ (the-table else2);
+          listed = well-made-in-bounds _ _ (the-list else3);
           indexed = after-twin-of .twin-of .ensures .1 (after-enum-told .enum-told .given .1);
           marked = after-mark-confirmed .mark-confirmed .ensures;
         },
@@ -121,7 +121,7 @@ the-answer c =
     let after-enum-told = else3 .before .before in
     let else2 = after-enum-told .before .before .before .before .before in
     let else1 = else2 .before .before in
-    answered _ _ _ _ (the-image else1) (the-table else2) (the-lone after-enum-told) (the-list else3)
+    answered _ _ _ _ (the-image else1) (the-table else2) (the-no-twin after-enum-told) (the-list else3)
     (after-node-count .node-count .ensures .0)
     (c .before .before .before .before .ready-count .ensures _ (after-mark-confirmed .mark-confirmed .ensures))
     (c .rule-says .result) (c .rule-says .ensures)

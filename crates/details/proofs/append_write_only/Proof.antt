@@ -25,10 +25,10 @@ loop-holds : tie.Need-loop-holds Inv-loop μ-loop
 loop-holds c = rw (c .names-start .ensures) (named-start _ _ _ _ (c .before .before .before .before .pre .0) (c .before .count-of .ensures .0))
 
 length-at-requires : tie.Need-length-at-requires Inv-loop μ-loop
-length-at-requires c κs = let h = c .before .loop .inv .stands in (h .laid, (h .counted, omega arith))
+length-at-requires c κs = let h = c .before .loop .inv .stands in (h .in-bounds, (h .counted, omega arith))
 
 mode-at-requires : tie.Need-mode-at-requires Inv-loop μ-loop
-mode-at-requires c κs = let h = c .before .before .loop .inv .stands in (h .laid, omega arith)
+mode-at-requires c κs = let h = c .before .before .loop .inv .stands in (h .in-bounds, omega arith)
 
 add-append-confirmed : tie.Need-add-append-confirmed Inv-loop μ-loop
 add-append-confirmed c = omega (arith, inside (c .before .before .before))

@@ -15,7 +15,7 @@ use Rattle.image.specs.Decode.{cellAt}
 use Rattle.image.proofs.Laws.FitLaws.{cell-size}
 use Rattle.image.proofs.Laws.EncodeLaws.{size-pos}
 use Rattle.evaluate.specs.Inner.By.{saysAt}
-use Rattle.evaluate.proofs.Laws.SubtreeLaws.{Walks, walks-start, walks-next, Last, last, last-here, last-back, Answered, moved-few, leaf-done, one-done, join-done}
+use Rattle.evaluate.proofs.Laws.SubtreeLaws.{CountWalks, walks-start, walks-next, Last, last, last-here, last-back, Answered, moved-few, leaf-done, one-done, join-done}
 use Rattle.image.proofs.Laws.KindLaws.{other-kind, join-kind-no-leaf, no-leaf, no-join}
 use Rattle.image.proofs.Laws.CellLaws.{cell-what}
 use Rattle.evaluate.proofs.evaluate.Reads as evaluate
@@ -42,7 +42,7 @@ given t = (node-at-reads.Asked, node-at-reads.Learnt, evaluate-below t, evaluate
 
 abbrev evaluate-Inv-loop : evaluate-lts.InvT-loop
 evaluate-Inv-loop image n from size says least at kind arg end₀ yes₀ total₀ end yes' total =
-    (total + end ≤ at) × (yes' ≤ total) × Walks (cellAt image n) (saysAt says least) from size end yes' total
+    (total + end ≤ at) × (yes' ≤ total) × CountWalks (cellAt image n) (saysAt says least) from size end yes' total
 
 abbrev evaluate-μ-loop : evaluate-lts.MeasureT-loop
 evaluate-μ-loop image n from size says least at kind arg end₀ yes₀ total₀ end yes' total = end

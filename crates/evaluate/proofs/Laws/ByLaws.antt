@@ -4,12 +4,12 @@ use mathlib.Core.Bool.{Bool}
 use Prim.Native.Nat.{ℕ, _+_, _≤_, _<_}
 use native.Mathlib.Omega.{arith}
 use Rattle.rules.specs.Rule.{Leaf, Rule, leaf, node, Rules, nil, more, size, sizes}
-use Rattle.image.specs.Decode.{aLeaf, Cell}
+use Rattle.image.specs.Decode.{leafMeaning, Cell}
 use Rattle.image.specs.Inner.EncodedAt.{EncodedAt, EncodedAllAt}
 use Rattle.evaluate.specs.Evict.{Env, leafSays, evict, answers}
 use Rattle.evaluate.specs.Inner.By.{evictBy, answersBy}
 
-module _ (f : ℕ → Cell) (g : ℕ → Bool) (v : Env) (n : ℕ) (says : (i : ℕ) → i < n → (l : Leaf) → f i .what ≡ aLeaf l → g i ≡ leafSays l v) where
+module _ (f : ℕ → Cell) (g : ℕ → Bool) (v : Env) (n : ℕ) (says : (i : ℕ) → i < n → (l : Leaf) → f i .what ≡ leafMeaning l → g i ≡ leafSays l v) where
   mutual
     unfolding evict evictBy EncodedAt size
 

@@ -6,7 +6,7 @@ use Prim.Native.Nat.{ℕ, suc, _+_, _-_, _<_, _≤_}
 use native.Mathlib.Omega.{arith}
 use lib.ListN.{length}
 use Rattle.rules.specs.Rule.{Leaf, Join, Rule, leaf, node, Rules, nil, more, size, sizes}
-use Rattle.image.specs.Decode.{Meaning, aLeaf, aJoin, Cell}
+use Rattle.image.specs.Decode.{Meaning, leafMeaning, joinMeaning, Cell}
 use Rattle.image.proofs.Laws.EncodeLaws.{size-pos}
 use Rattle.image.proofs.Laws.EncodedAtLaws.{root-size}
 use Rattle.image.specs.Inner.EncodedAt.{EncodedAt, EncodedAllAt}
@@ -27,16 +27,16 @@ moved-few false e = omega arith
 
 -- of the rules rs and r, those of `rest` have not been asked yet, and their nodes are those from `from` up to `end`; of the t
 -- that were asked, y say evict
-pub record Walk (f : ℕ → Cell) (g : ℕ → Bool) (from end y t : ℕ) (rs : Rules) (r : Rule) (rest : Rules) : Type 0 where
+pub record CountWalk (f : ℕ → Cell) (g : ℕ → Bool) (from end y t : ℕ) (rs : Rules) (r : Rule) (rest : Rules) : Type 0 where
   pub standing : EncodedAllAt rest f from
   pub ends : from + sizes rest ≡ end
   pub evicts : y + countTrue (answersBy g rest from) ≡ countTrue (answersBy g (more rs r) from)
   pub told : t + length (answersBy g rest from) ≡ length (answersBy g (more rs r) from)
 
 -- so for whatever combinator has the k cells from `from` on
-abbrev pub Walks : (ℕ → Cell) → (ℕ → Bool) → ℕ → ℕ → ℕ → ℕ → ℕ → Type 0
-Walks f g from k end y t =
-    (j : Join) (rs : Rules) (r : Rule) → size (node j rs r) ≡ k → EncodedAt (node j rs r) f from → (rest : Rules) × Walk f g from end y t rs r rest
+abbrev pub CountWalks : (ℕ → Cell) → (ℕ → Bool) → ℕ → ℕ → ℕ → ℕ → ℕ → Type 0
+CountWalks f g from k end y t =
+    (j : Join) (rs : Rules) (r : Rule) → size (node j rs r) ≡ k → EncodedAt (node j rs r) f from → (rest : Rules) × CountWalk f g from end y t rs r rest
 
 -- the last rule that has not been asked yet
 pub record Last (f : ℕ → Cell) (from end : ℕ) : Type 0 where
@@ -50,14 +50,14 @@ abbrev pub Answered : (ℕ → Cell) → (ℕ → Bool) → ℕ → ℕ → Bool
 Answered f g from k b = (r : Rule) → size r ≡ k → EncodedAt r f from → b ≡ evictBy g r from
 
 module _ (f : ℕ → Cell) (g : ℕ → Bool) (from k : ℕ) where
-  pub walks-start : Walks f g from k (from + k - 1) 0 0
+  pub walks-start : CountWalks f g from k (from + k - 1) 0 0
   unfolding size EncodedAt
   walks-start j rs r e st =
       (more rs r, record { standing = (st .0, st .1); ends = omega arith; evicts = omega arith; told = omega arith })
 
   -- the walk has come to `end`
-  module _ {end y t : ℕ} (ws : Walks f g from k end y t) where
-    last-of : (rs : Rules) (r : Rule) → from < end → (rest : Rules) → Walk f g from end y t rs r rest → Last f from end
+  module _ {end y t : ℕ} (ws : CountWalks f g from k end y t) where
+    last-of : (rs : Rules) (r : Rule) → from < end → (rest : Rules) → CountWalk f g from end y t rs r rest → Last f from end
     unfolding size EncodedAt
     last-of rs r lt nil w = absurd (omega (arith, w .ends))
     last-of rs r lt (more rest q) w =
@@ -77,7 +77,7 @@ module _ (f : ℕ → Cell) (g : ℕ → Bool) (from k : ℕ) where
     -- the cell before `end` says z
     module _ {z : ℕ} (says : z ≡ f (end - 1) .size) where
       next-of : (b : Bool) {y′ : ℕ} (rs : Rules) (r : Rule) → from < end → Answered f g (end - z) z b → y′ ≡ cond b (suc y) y →
-          (rest : Rules) → Walk f g from end y t rs r rest → (rest : Rules) × Walk f g from (end - z) y′ (t + 1) rs r rest
+          (rest : Rules) → CountWalk f g from end y t rs r rest → (rest : Rules) × CountWalk f g from (end - z) y′ (t + 1) rs r rest
       unfolding size EncodedAt evictBy
       next-of b rs r lt ans ey nil w = absurd (omega (arith, w .ends))
       next-of b {y′} rs r lt ans ey (more rest q) w =
@@ -97,10 +97,10 @@ module _ (f : ℕ → Cell) (g : ℕ → Bool) (from k : ℕ) where
           )
 
       -- one child more is asked
-      pub walks-next : from < end → (b : Bool) {y′ : ℕ} → Answered f g (end - z) z b → y′ ≡ cond b (suc y) y → Walks f g from k (end - z) y′ (t + 1)
+      pub walks-next : from < end → (b : Bool) {y′ : ℕ} → Answered f g (end - z) z b → y′ ≡ cond b (suc y) y → CountWalks f g from k (end - z) y′ (t + 1)
       walks-next lt b ans ey j rs r e st = let (rest, w) = ws j rs r e st in next-of b rs r lt ans ey rest w
 
-    done-of : (rs : Rules) (r : Rule) → end ≤ from → (rest : Rules) → Walk f g from end y t rs r rest →
+    done-of : (rs : Rules) (r : Rule) → end ≤ from → (rest : Rules) → CountWalk f g from end y t rs r rest →
         (countTrue (answersBy g (more rs r) from) ≡ y) × (length (answersBy g (more rs r) from) ≡ t)
     unfolding size evictBy countTrue
     done-of rs r le nil w = (omega (arith, w .evicts), omega (arith, w .told))
@@ -108,7 +108,7 @@ module _ (f : ℕ → Cell) (g : ℕ → Bool) (from k : ℕ) where
 
     -- all are asked
     pub join-done : {m : Meaning} {b : Bool} → m ≡ f (from + k - 1) .what → NoLeaf m → end ≤ from →
-        ((j : Join) (bs : List Bool) → m ≡ aJoin j → countTrue bs ≡ y → length bs ≡ t → b ≡ joinSays j bs) → Answered f g from k b
+        ((j : Join) (bs : List Bool) → m ≡ joinMeaning j → countTrue bs ≡ y → length bs ≡ t → b ≡ joinSays j bs) → Answered f g from k b
     unfolding size EncodedAt evictBy
     join-done p other le says (leaf l) e st =
         let q : from ≡ from + k - 1 = omega arith in
@@ -120,7 +120,7 @@ module _ (f : ℕ → Cell) (g : ℕ → Bool) (from k : ℕ) where
         says j (answersBy g (more rs r) from) (p ∙ (rw q at (st .2))) x z
 
   -- a leaf has no children: it is known by its meaning, or by its one cell
-  pub leaf-done : {m : Meaning} {b : Bool} → m ≡ f (from + k - 1) .what → NoJoin m → ((l : Leaf) → m ≡ aLeaf l → b ≡ g (from + k - 1)) → Answered f g from k b
+  pub leaf-done : {m : Meaning} {b : Bool} → m ≡ f (from + k - 1) .what → NoJoin m → ((l : Leaf) → m ≡ leafMeaning l → b ≡ g (from + k - 1)) → Answered f g from k b
   unfolding size EncodedAt evictBy
   leaf-done {b = b} p other says (leaf l) e st =
       let q : from + k - 1 ≡ from = omega arith in

@@ -5,7 +5,7 @@ use mathlib.Core.List.{List}
 use lib.Dec.{leb}
 use lib.ListN.{getD}
 use Rattle.rules.specs.Rule.{Leaf}
-use Rattle.image.specs.Decode.{aLeaf, cellAt}
+use Rattle.image.specs.Decode.{leafMeaning, cellAt}
 use Rattle.store_table.specs.Stores.{countIn, entriesIn, allNames}
 use Rattle.store_table.specs.Inner.Bounds.{TableInBounds}
 use Rattle.store_table.specs.Inner.Index.{Indexed, Marked}
@@ -25,7 +25,7 @@ envIn list v = record { age = v .age; ready = v .ready; names = allNames (entrie
 
 -- of an image of n nodes, each leaf among the first i says evict in an environment exactly where its number is at least `least`
 abbrev pub SaidTo : List ℕ → ℕ → List ℕ → ℕ → Env → ℕ → Type 0
-SaidTo s n says least w i = (j : ℕ) → j < i → (l : Leaf) → cellAt s n j .what ≡ aLeaf l → leb least (getD says j 0) ≡ leafSays l w
+SaidTo s n says least w i = (j : ℕ) → j < i → (l : Leaf) → cellAt s n j .what ≡ leafMeaning l → leb least (getD says j 0) ≡ leafSays l w
 
 -- each leaf does
 abbrev pub Said : List ℕ → ℕ → List ℕ → ℕ → Env → Type 0

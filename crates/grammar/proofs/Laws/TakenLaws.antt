@@ -61,7 +61,7 @@ pub record Taken (ts us : List Token) (x y : ℕ) : Type 0 where
   pub bytes : y + bytesFor us ≤ bytesFor ts
 
 -- the nodes have these names, and S says that 8 bytes hold their numbers; s is the text
-pub record Made (s : List ℕ) (ts us : List Token) (x : ℕ) (ws : List ℕ) (S : Type 0) : Type 0 where
+pub record TakenNamed (s : List ℕ) (ts us : List Token) (x : ℕ) (ws : List ℕ) (S : Type 0) : Type 0 where
   pub taken : Taken ts us x (length ws)
   pub ascii : allAscii s ≡ true → allAscii ws ≡ true
   pub small : length s < 2 ^ 64 → S
@@ -94,7 +94,7 @@ abbrev pub Numbered : Refusal → Type 0
 Numbered f = (2 ≤ f .number) × (f .number ≤ 15)
 
 abbrev pub Begun : List ℕ → List Token → PrimaryStart → Type 0
-Begun s ts (aLeaf l us) = Made s ts us 1 (leafName l) (leafArg l 0 < 2 ^ 64)
+Begun s ts (aLeaf l us) = TakenNamed s ts us 1 (leafName l) (leafArg l 0 < 2 ^ 64)
 Begun s ts (aGroup us) = Taken ts us 1 0
 Begun s ts (aList j p us) = Taken ts us 1 0 × (joinArg j < 2 ^ 64)
 Begun s ts (refused f) = Numbered f
@@ -135,7 +135,7 @@ module _ (s : List ℕ) (ts : List Token) where
       go false = omega arith
 
   -- a leaf that has no name
-  number-made : {us : List Token} {n : ℕ} → Taken ts us 1 0 → n < 2 ^ 64 → Made s ts us 1 [] (n < 2 ^ 64)
+  number-made : {us : List Token} {n : ℕ} → Taken ts us 1 0 → n < 2 ^ 64 → TakenNamed s ts us 1 [] (n < 2 ^ 64)
   unfolding allAscii
   number-made t l = record { taken = t; ascii = λ _. refl; small = λ _. l }
 
@@ -173,9 +173,9 @@ module _ (s : List ℕ) (ts : List Token) where
   name-made us a b t = record { taken = omega (arith, part-short s a b); ascii = part-ascii s a b; small = λ i. omega (arith, part-short s a b) }
 
   -- an unquoted word alone
-  bare-made : (us : List Token) (a b : ℕ) → Taken ts us 1 (b - a) → Begun s ts (aLeaf (unquotedLeaf (part s a b)) us)
+  unquoted-made : (us : List Token) (a b : ℕ) → Taken ts us 1 (b - a) → Begun s ts (aLeaf (unquotedLeaf (part s a b)) us)
   unfolding unquotedLeaf
-  bare-made us a b t = go (equalIgnoringCase (part s a b) (bytes "readable"))
+  unquoted-made us a b t = go (equalIgnoringCase (part s a b) (bytes "readable"))
     where
       go : (v : Bool) → Begun s ts (aLeaf (cond v (readable 1) (named (part s a b))) us)
       go true = number-made (omega arith) (omega arith)
@@ -194,29 +194,29 @@ head-begun s d (Word p a b true n ∷ us) = name-made s (Word p a b true n ∷ u
 head-begun s d (Word p a b false n ∷ us) =
     let ts = Word p a b false n ∷ us in
     by-after (λ r. Begun s ts (unquotedStart s d p (part s a b) us r)) openBracket us (omega arith)
-    (bare-made s ts us a b (omega arith))
+    (unquoted-made s ts us a b (omega arith))
     (λ vs t. opened-begun s ts d _ _ (call-begun s ts vs (omega arith) p (functionOf (part s a b))))
 head-begun s d (Fault f ∷ us) = omega arith
 
 -- ---- rules
 abbrev pub MadeRule : List ℕ → List Token → Rule → List Token → Type 0
-MadeRule s ts r us = Made s ts us (size r) (names r) (Small r)
+MadeRule s ts r us = TakenNamed s ts us (size r) (names r) (Small r)
 
 abbrev MadeRules : List ℕ → List Token → Rules → List Token → Type 0
-MadeRules s ts rs us = Made s ts us (sizes rs) (namesAll rs) (SmallAll rs)
+MadeRules s ts rs us = TakenNamed s ts us (sizes rs) (namesAll rs) (SmallAll rs)
 
 module _ {s : List ℕ} where
   -- some tokens, and then those that it was made of
-  behind : {ts us vs : List Token} {x : ℕ} {ws : List ℕ} {S : Type 0} → Taken ts us 1 0 → Made s us vs x ws S → Made s ts vs x ws S
+  behind : {ts us vs : List Token} {x : ℕ} {ws : List ℕ} {S : Type 0} → Taken ts us 1 0 → TakenNamed s us vs x ws S → TakenNamed s ts vs x ws S
   behind t m = record { taken = omega arith; ascii = m .ascii; small = m .small }
 
   -- and a token after them
-  before : {ts us vs : List Token} {x z : ℕ} {ws : List ℕ} {S : Type 0} → z ≤ x + 1 → Made s ts us x ws S → Taken us vs 1 0 → Made s ts vs z ws S
+  before : {ts us vs : List Token} {x z : ℕ} {ws : List ℕ} {S : Type 0} → z ≤ x + 1 → TakenNamed s ts us x ws S → Taken us vs 1 0 → TakenNamed s ts vs z ws S
   before l m t = record { taken = omega arith; ascii = m .ascii; small = m .small }
 
   -- two, with a sign between them
-  both : {ts us vs xs : List Token} {x y z : ℕ} {ws zs : List ℕ} {S T : Type 0} → z ≤ x + y + 1 → Made s ts us x ws S →
-      Taken us vs 1 0 → Made s vs xs y zs T → Made s ts xs z (ws ++ zs) (S × T)
+  both : {ts us vs xs : List Token} {x y z : ℕ} {ws zs : List ℕ} {S T : Type 0} → z ≤ x + y + 1 → TakenNamed s ts us x ws S →
+      Taken us vs 1 0 → TakenNamed s vs xs y zs T → TakenNamed s ts xs z (ws ++ zs) (S × T)
   both {ws = ws} {zs} l m t n =
       record {
         taken = omega (arith, length-append ws zs);
@@ -226,7 +226,7 @@ module _ {s : List ℕ} where
 
   -- a combinator over its children
   node-made : {ts us : List Token} (j : Join) (rs : Rules) (r : Rule) → joinArg j < 2 ^ 64 →
-      Made s ts us (suc (sizes rs + size r)) (namesAll rs ++ names r) (SmallAll rs × Small r) → MadeRule s ts (node j rs r) us
+      TakenNamed s ts us (suc (sizes rs + size r)) (namesAll rs ++ names r) (SmallAll rs × Small r) → MadeRule s ts (node j rs r) us
   unfolding size names Small
   node-made j rs r l m = record { taken = m .taken; ascii = m .ascii; small = λ h. (l, m .small h) }
 

@@ -14,19 +14,19 @@ use Rattle.rules.specs.Rule.{Leaf, Join, Rule, leaf, node, Rules, nil, more, si
 use Rattle.little_endian.specs.Bytes.{packed, leAt}
 use Rattle.slices.specs.Text.{allAscii, AllBytes}
 use Rattle.image.specs.Encode.{leafKind, joinKind, tag, leafArg, joinArg, leafName, names, namesAll, tags, tagsAll, args, argsAll, encode, Small, SmallAll, Fits}
-use Rattle.image.specs.Decode.{nodeAt, Meaning, aLeaf, aJoin, nothing, meaning, cellAt, place, build, only, nextName, nameEnd, endsAt, sized, decodeParts, decode}
+use Rattle.image.specs.Decode.{nodeAt, Meaning, leafMeaning, joinMeaning, nothing, meaning, cellAt, place, build, only, nextName, nameEnd, endsAt, sized, decodeParts, decode}
 use Rattle.little_endian.proofs.Laws.BytesLaws.{Has, has-rest, at-number, number-below}
-use Rattle.image.proofs.Laws.EncodeLaws.{size-pos, length-tags, length-tagsAll, length-args, length-argsAll, length-encode, Laid, laid-append, laid-image}
+use Rattle.image.proofs.Laws.EncodeLaws.{size-pos, length-tags, length-tagsAll, length-args, length-argsAll, length-encode, ImagePart, part-append, part-image}
 use Rattle.image.proofs.Laws.BuildLaws.{when-some, bind-some, chain, closed, sizes-close, names-close, tags-close, args-close, small-close}
 use Rattle.image.proofs.Laws.NameRunLaws.{next-le}
 use Rattle.image.proofs.Laws.TestLaws.{sized-true, ends-some, only-some}
 
 module _ (s : List ℕ) (n m : ℕ) (bytes : AllBytes s) (long : length s ≡ 4 + 12 * n + m) where
   -- a node that is read has its tag, argument and name at their places
-  node-laid : (i t k z a : ℕ) (ws : List ℕ) → i < n → nodeAt s n i .kind ≡ k → nodeAt s n i .size ≡ z → nodeAt s n i .arg ≡ a →
-      Has s (4 + 12 * n + t) ws → Laid s n i t (tag k z ∷ []) (a ∷ []) ws
+  node-part : (i t k z a : ℕ) (ws : List ℕ) → i < n → nodeAt s n i .kind ≡ k → nodeAt s n i .size ≡ z → nodeAt s n i .arg ≡ a →
+      Has s (4 + 12 * n + t) ws → ImagePart s n i t (tag k z ∷ []) (a ∷ []) ws
   unfolding nodeAt packed
-  node-laid i t k z a ws lt p q e h =
+  node-part i t k z a ws lt p q e h =
       let x : leAt s (4 + 4 * i) 4 ≡ tag k z = omega arith in
       record {
         tags = rw x at (at-number s (4 + 4 * i) 4 bytes (omega arith));
@@ -48,8 +48,8 @@ module _ (s : List ℕ) (n m : ℕ) (bytes : AllBytes s) (long : length s ≡ 4 
 
   -- what a node's meaning says of its kind and argument
   abbrev Says : ℕ → ℕ → ℕ → ℕ → Meaning → Type 0
-  Says k a t u (aLeaf l) = LeafAt k a t u l
-  Says k a t u (aJoin j) = (k ≡ joinKind j) × (a ≡ joinArg j) × (t ≡ u)
+  Says k a t u (leafMeaning l) = LeafAt k a t u l
+  Says k a t u (joinMeaning j) = (k ≡ joinKind j) × (a ≡ joinArg j) × (t ≡ u)
   Says k a t u nothing = Unit {0}
 
   says : (k a t u : ℕ) → u ≤ m → nextName k a t ≡ some u → Says k a t u (meaning s n k a)
@@ -75,7 +75,7 @@ module _ (s : List ℕ) (n m : ℕ) (bytes : AllBytes s) (long : length s ≡ 4 
 
   -- the first i nodes, with names up to t, are these rules'
   record Taken (i t : ℕ) (rs : Rules) : Type 0 where
-    laid : Laid s n 0 0 (tagsAll rs) (argsAll rs 0) (namesAll rs)
+    in-bounds : ImagePart s n 0 0 (tagsAll rs) (argsAll rs 0) (namesAll rs)
     nodes : sizes rs ≡ i
     ends : length (namesAll rs) ≡ t
     small : SmallAll rs
@@ -83,12 +83,12 @@ module _ (s : List ℕ) (n m : ℕ) (bytes : AllBytes s) (long : length s ≡ 4 
   -- one node more after them
   node-taken : (i t k z a : ℕ) (rs : Rules) (ws : List ℕ) → i < n → nodeAt s n i .kind ≡ k → nodeAt s n i .size ≡ z →
       nodeAt s n i .arg ≡ a → Has s (4 + 12 * n + t) ws → Taken i t rs →
-      Laid s n 0 0 (tagsAll rs ++ (tag k z ∷ [])) (argsAll rs 0 ++ (a ∷ [])) (namesAll rs ++ ws)
+      ImagePart s n 0 0 (tagsAll rs ++ (tag k z ∷ [])) (argsAll rs 0 ++ (a ∷ [])) (namesAll rs ++ ws)
   node-taken i t k z a rs ws lt p q e w h =
       let x = length-tagsAll rs in
       let y = length-argsAll rs 0 in
-      laid-append s n 0 i 0 t (tagsAll rs) (tag k z ∷ []) (argsAll rs 0) (a ∷ []) (namesAll rs) ws (omega arith) (omega arith)
-      (omega arith) (h .laid) (node-laid i t k z a ws lt p q e w)
+      part-append s n 0 i 0 t (tagsAll rs) (tag k z ∷ []) (argsAll rs 0) (a ∷ []) (namesAll rs) ws (omega arith) (omega arith)
+      (omega arith) (h .in-bounds) (node-part i t k z a ws lt p q e w)
 
   leaf-taken : (i t u : ℕ) (rs : Rules) (l : Leaf) → i < n → nodeAt s n i .size ≡ 1 →
       LeafAt (nodeAt s n i .kind) (nodeAt s n i .arg) t u l → Taken i t rs → Taken (suc i) u (more rs (leaf l))
@@ -97,7 +97,7 @@ module _ (s : List ℕ) (n m : ℕ) (bytes : AllBytes s) (long : length s ≡ 4 
       let p : 0 + length (namesAll rs) ≡ t = omega arith in
       let below = arg-below i lt in
       record {
-        laid = rw p (node-taken i t (leafKind l) 1 (leafArg l t) rs (leafName l) lt (d .kind) z (d .arg) (d .name) h);
+        in-bounds = rw p (node-taken i t (leafKind l) 1 (leafArg l t) rs (leafName l) lt (d .kind) z (d .arg) (d .name) h);
         nodes = omega arith;
         ends = rw length-append (omega arith);
         small = (h .small, omega arith);
@@ -110,7 +110,7 @@ module _ (s : List ℕ) (n m : ℕ) (bytes : AllBytes s) (long : length s ≡ 4 
       let below = arg-below i lt in
       let w = node-taken i t (joinKind j) (suc (sizes rs + size r)) (joinArg j) (more (chain ps rs) r) [] lt k z a refl h in
       record {
-        laid = rw (tags-close j ps rs r, args-close j ps rs r 0, names-close j ps rs r) (rw append-nil at w);
+        in-bounds = rw (tags-close j ps rs r, args-close j ps rs r 0, names-close j ps rs r) (rw append-nil at w);
         nodes = omega (arith, sizes-close j ps rs r);
         ends = rw (names-close j ps rs r) (h .ends);
         small = small-close j ps rs r (omega arith) (h .small);
@@ -119,11 +119,11 @@ module _ (s : List ℕ) (n m : ℕ) (bytes : AllBytes s) (long : length s ≡ 4 
   place-taken : (i t u : ℕ) (rs out : Rules) (w : Meaning) → i < n → Says (nodeAt s n i .kind) (nodeAt s n i .arg) t u w →
       place w (nodeAt s n i .size) rs ≡ some out → Taken i t rs → Taken (suc i) u out
   unfolding place
-  place-taken i t u rs out (aLeaf l) lt d e h =
+  place-taken i t u rs out (leafMeaning l) lt d e h =
       let (z, f) = when-some (eqb (nodeAt s n i .size) 1) (some (more rs (leaf l))) e in
       let p : out ≡ more rs (leaf l) = cc in
       rw p (leaf-taken i t u rs l lt (eqb-true (nodeAt s n i .size) 1 z) d h)
-  place-taken i t u rs out (aJoin j) lt d e h =
+  place-taken i t u rs out (joinMeaning j) lt d e h =
       let c = closed j rs (nodeAt s n i .size - 1) out e in
       let pos = size-pos (c .child) in
       let z : nodeAt s n i .size ≡ suc (sizes (c .children) + size (c .child)) = omega arith in
@@ -135,7 +135,7 @@ module _ (s : List ℕ) (n m : ℕ) (bytes : AllBytes s) (long : length s ≡ 4 
   taken zero t rs le short e f =
       let p : rs ≡ nil = cc in
       let q : t ≡ 0 = cc in
-      rw (p, q) (record { laid = record { tags = refl; args = refl; names = refl }; nodes = refl; ends = refl; small = tt })
+      rw (p, q) (record { in-bounds = record { tags = refl; args = refl; names = refl }; nodes = refl; ends = refl; small = tt })
   taken (suc i) u out le short e f =
       let (rs, e₁, e₂) = bind-some (build (cellAt s n) i) _ e in
       let (t, f₁, f₂) = bind-some (nameEnd (nodeAt s n) i) _ f in
@@ -148,7 +148,7 @@ record Parts (s : List ℕ) (n m : ℕ) (r : Rule) : Type 0 where
   nodes : n ≡ size r
   ends : m ≡ length (names r)
   long : length s ≡ 4 + 12 * n + m
-  laid : Laid s n 0 0 (tags r) (args r 0) (names r)
+  in-bounds : ImagePart s n 0 0 (tags r) (args r 0) (names r)
   fits : Fits r
 
 taken-parts : (s : List ℕ) (n m : ℕ) (r : Rule) (bytes : AllBytes s) (long : length s ≡ 4 + 12 * n + m) → n ≤ 2048 → m ≤ 2048 →
@@ -157,12 +157,12 @@ unfolding size names tags args Small
 taken-parts s n m r bytes long few short ascii h =
     let p : n ≡ size r = omega arith in
     let q : m ≡ length (names r) = sym (h .ends) in
-    let e : drop (4 + 12 * n) s ≡ names r = has-rest s (names r) (4 + 12 * n) (omega arith) (rw add-zero at (h .laid .names)) in
+    let e : drop (4 + 12 * n) s ≡ names r = has-rest s (names r) (4 + 12 * n) (omega arith) (rw add-zero at (h .in-bounds .names)) in
     record {
       nodes = p;
       ends = q;
       long = long;
-      laid = h .laid;
+      in-bounds = h .in-bounds;
       fits = record { nodes = omega arith; bytes = omega arith; ascii = rw e at ascii; small = h .small .1 };
     }
 
@@ -187,7 +187,7 @@ decoded-image s r bytes e =
     let w = whole s r bytes e in
     let a = rw (w .nodes) at (at-number s 0 2 bytes (omega arith)) in
     let b = rw (w .ends) at (at-number s 2 2 bytes (omega arith)) in
-    let h = laid-image s (size r) (tags r) (args r 0) (names r) (length-tags r) (length-args r 0) a b (rw (w .nodes) at (w .laid)) in
+    let h = part-image s (size r) (tags r) (args r 0) (names r) (length-tags r) (length-args r 0) a b (rw (w .nodes) at (w .in-bounds)) in
     has-rest s (encode r) 0 (omega (arith, length-encode r)) h
 
 pub decoded-fits : (s : List ℕ) (r : Rule) → AllBytes s → decode s ≡ some r → Fits r

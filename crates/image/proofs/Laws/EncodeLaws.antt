@@ -53,7 +53,7 @@ unfolding encode
 length-encode r = simp (length-append, length-packed, length-tags, length-args) (omega arith)
 
 -- from node i and name byte t on, an image of n nodes has these tags, arguments and name bytes
-pub record Laid (s : List ℕ) (n i t : ℕ) (ts xs ws : List ℕ) : Type 0 where
+pub record ImagePart (s : List ℕ) (n i t : ℕ) (ts xs ws : List ℕ) : Type 0 where
   pub tags : Has s (4 + 4 * i) (packed 4 ts)
   pub args : Has s (4 + 4 * n + 8 * i) (packed 8 xs)
   pub names : Has s (4 + 12 * n + t) ws
@@ -66,16 +66,16 @@ module _ (s : List ℕ) (n i j t u : ℕ) (ts us xs ys ws vs : List ℕ) (few : 
   to-args : 4 + 4 * n + 8 * i + length (packed 8 xs) ≡ 4 + 4 * n + 8 * j
   to-args = rw length-packed (omega arith)
 
-  pub laid-append : Laid s n i t ts xs ws → Laid s n j u us ys vs → Laid s n i t (ts ++ us) (xs ++ ys) (ws ++ vs)
-  laid-append a b =
+  pub part-append : ImagePart s n i t ts xs ws → ImagePart s n j u us ys vs → ImagePart s n i t (ts ++ us) (xs ++ ys) (ws ++ vs)
+  part-append a b =
       record {
         tags = rw packed-append (has-append s (packed 4 ts) (packed 4 us) _ _ to-tags (a .tags) (b .tags));
         args = rw packed-append (has-append s (packed 8 xs) (packed 8 ys) _ _ to-args (a .args) (b .args));
         names = has-append s ws vs _ _ (omega arith) (a .names) (b .names);
       }
 
-  pub laid-cut : Laid s n i t (ts ++ us) (xs ++ ys) (ws ++ vs) → Laid s n i t ts xs ws × Laid s n j u us ys vs
-  laid-cut a =
+  pub part-cut : ImagePart s n i t (ts ++ us) (xs ++ ys) (ws ++ vs) → ImagePart s n i t ts xs ws × ImagePart s n j u us ys vs
+  part-cut a =
       let x = rw packed-append at (a .tags) in
       let y = rw packed-append at (a .args) in (
         record {
@@ -98,9 +98,9 @@ module _ (s : List ℕ) (n : ℕ) (ts xs ws : List ℕ) (few : length ts ≡ n) 
   from-tags : 4 + length (packed 4 ts) ≡ 4 + 4 * n + 8 * 0
   from-tags = rw length-packed (omega arith)
 
-  image-laid : Has s 0 (imageOf n ts xs ws) → Has s 0 (leBytes 2 n) × Has s 2 (leBytes 2 (length ws)) × Laid s n 0 0 ts xs ws
+  image-part : Has s 0 (imageOf n ts xs ws) → Has s 0 (leBytes 2 n) × Has s 2 (leBytes 2 (length ws)) × ImagePart s n 0 0 ts xs ws
   unfolding imageOf
-  image-laid h =
+  image-part h =
       let h₁ = has-back s (leBytes 2 n) _ 0 2 refl h in
       let h₂ = has-back s (leBytes 2 (length ws)) _ 2 4 refl h₁ in
       let h₃ = has-back s (packed 4 ts) _ _ _ from-tags h₂ in (
@@ -113,16 +113,16 @@ module _ (s : List ℕ) (n : ℕ) (ts xs ws : List ℕ) (few : length ts ≡ n) 
         },
       )
 
-  pub laid-image : Has s 0 (leBytes 2 n) → Has s 2 (leBytes 2 (length ws)) → Laid s n 0 0 ts xs ws → Has s 0 (imageOf n ts xs ws)
+  pub part-image : Has s 0 (leBytes 2 n) → Has s 2 (leBytes 2 (length ws)) → ImagePart s n 0 0 ts xs ws → Has s 0 (imageOf n ts xs ws)
   unfolding imageOf
-  laid-image a b l =
+  part-image a b l =
       has-append s (leBytes 2 n) _ 0 2 refl a
       (has-append s (leBytes 2 (length ws)) _ 2 4 refl b
       (has-append s (packed 4 ts) _ _ _ from-tags (l .tags)
       (has-append s (packed 8 xs) ws _ _ to-names (l .args) (l .names))))
 
 -- a rule's image has the two counts, and from its first node and name byte on the rule's own
-pub encode-laid : (r : Rule) →
-    Has (encode r) 0 (leBytes 2 (size r)) × Has (encode r) 2 (leBytes 2 (length (names r))) × Laid (encode r) (size r) 0 0 (tags r) (args r 0) (names r)
+pub encode-part : (r : Rule) →
+    Has (encode r) 0 (leBytes 2 (size r)) × Has (encode r) 2 (leBytes 2 (length (names r))) × ImagePart (encode r) (size r) 0 0 (tags r) (args r 0) (names r)
 unfolding encode Has
-encode-laid r = image-laid (encode r) (size r) (tags r) (args r 0) (names r) (length-tags r) (length-args r 0) (take-length (encode r))
+encode-part r = image-part (encode r) (size r) (tags r) (args r 0) (names r) (length-tags r) (length-args r 0) (take-length (encode r))

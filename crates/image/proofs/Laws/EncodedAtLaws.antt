@@ -6,7 +6,7 @@ use native.Mathlib.Omega.{arith}
 use lib.Dec.{eqb}
 use borrow.Author.Tests.{eqb-true}
 use Rattle.rules.specs.Rule.{Rule, leaf, node, Rules, nil, more, size, sizes}
-use Rattle.image.specs.Decode.{Meaning, aLeaf, aJoin, nothing, Cell, place, build}
+use Rattle.image.specs.Decode.{Meaning, leafMeaning, joinMeaning, nothing, Cell, place, build}
 use Rattle.image.specs.Inner.EncodedAt.{EncodedAt, EncodedAllAt}
 use Rattle.image.proofs.Laws.EncodeLaws.{size-pos}
 use Rattle.image.proofs.Laws.BuildLaws.{when-some, bind-some, chain, closed, sizes-chain, sizes-close}
@@ -72,12 +72,12 @@ pub record Built (f : ℕ → Cell) (i : ℕ) (rs : Rules) : Type 0 where
 module _ (f : ℕ → Cell) where
   place-built : (i : ℕ) (w : Meaning) (rs out : Rules) → f i .what ≡ w → place w (f i .size) rs ≡ some out → Built f i rs → Built f (suc i) out
   unfolding place size EncodedAt
-  place-built i (aLeaf l) rs out m e b =
+  place-built i (leafMeaning l) rs out m e b =
       let (t, e₁) = when-some (eqb (f i .size) 1) (some (more rs (leaf l))) e in
       let p : out ≡ more rs (leaf l) = cc in
       let q : 0 + sizes rs ≡ i = omega (arith, b .sized) in
       rw p (record { standing = (b .standing, (rw q m, rw q (eqb-true (f i .size) 1 t))); sized = omega (arith, b .sized) })
-  place-built i (aJoin j) rs out m e b =
+  place-built i (joinMeaning j) rs out m e b =
       let c = closed j rs (f i .size - 1) out e in
       let k = sizes-close j (c .before) (c .children) (c .child) in
       let was = ap sizes (c .was) in

@@ -11,7 +11,7 @@ use borrow.Author.Tests.{lt-leb, eq-eqb, ne-eqb}
 use Rattle.rules.specs.Rule.{Leaf, named, olderThan, readable, Join, atLeast, all, any, Rule, leaf, Rules, nil, more, size, sizes}
 use Rattle.image.specs.Kinds.{readableKind, atLeastKind, anyKind}
 use Rattle.image.specs.Layout.{nameOf}
-use Rattle.image.specs.Decode.{when, bind, Node, nodeAt, Meaning, aLeaf, aJoin, nothing, argument0, meaning, Cell, cellAt, split, close, place, build, only}
+use Rattle.image.specs.Decode.{when, bind, Node, nodeAt, Meaning, leafMeaning, joinMeaning, nothing, argument0, meaning, Cell, cellAt, split, close, place, build, only}
 use Rattle.image.specs.Inner.Valid.{isSome}
 use Rattle.image.specs.Inner.Leaves.{isLeaf}
 use Rattle.image.specs.Inner.EncodedAt.{EncodedAt, EncodedAllAt}
@@ -136,7 +136,7 @@ module _ (f : ℕ → Cell) (from end : ℕ) where
         }
 
 -- what a kind and an argument mean
-argument-0 : (a : ℕ) (j : Join) → a ≤ 0 → argument0 a j ≡ aJoin j
+argument-0 : (a : ℕ) (j : Join) → a ≤ 0 → argument0 a j ≡ joinMeaning j
 argument-0 zero j h = refl
 argument-0 (suc a) j h = absurd (omega arith)
 
@@ -151,14 +151,14 @@ pub record Joins (d : Node) : Type 0 where
   pub plain : atLeastKind < d .kind → d .arg ≤ 0
 
 module _ (s : List ℕ) (n : ℕ) where
-  is-leaf : (k a : ℕ) → k ≤ readableKind → (l : Leaf) × (meaning s n k a ≡ aLeaf l)
+  is-leaf : (k a : ℕ) → k ≤ readableKind → (l : Leaf) × (meaning s n k a ≡ leafMeaning l)
   unfolding meaning
   is-leaf zero a h = (named (nameOf s n a), refl)
   is-leaf (suc zero) a h = (olderThan a, refl)
   is-leaf (suc (suc zero)) a h = (readable a, refl)
   is-leaf (suc (suc (suc k))) a h = absurd (omega arith)
 
-  is-join : (k a : ℕ) → atLeastKind ≤ k → k ≤ anyKind → (atLeastKind < k → a ≤ 0) → (j : Join) × (meaning s n k a ≡ aJoin j)
+  is-join : (k a : ℕ) → atLeastKind ≤ k → k ≤ anyKind → (atLeastKind < k → a ≤ 0) → (j : Join) × (meaning s n k a ≡ joinMeaning j)
   unfolding meaning
   is-join zero a h i p = absurd (omega arith)
   is-join (suc zero) a h i p = absurd (omega arith)
@@ -195,7 +195,7 @@ module _ (s : List ℕ) (n : ℕ) where
     unfolding place
     fits-leaf h =
         let (l, m) = is-leaf (d .kind) (d .arg) (leaf-low (d .kind) h) in
-        fits-when (aLeaf l) (eqb (d .size) 1) m (λ rs p. by (eqb (d .size) 1) (more rs (leaf l)))
+        fits-when (leafMeaning l) (eqb (d .size) 1) m (λ rs p. by (eqb (d .size) 1) (more rs (leaf l)))
       where
         by : (b : Bool) (rs : Rules) → isSome (when b (some rs)) ≡ b
         by true rs = refl
@@ -207,14 +207,14 @@ module _ (s : List ℕ) (n : ℕ) where
     fits-unknown h q p = fits-when nothing false (is-nothing (d .kind) (d .arg) h q p) (λ rs e. refl)
 
     module _ (joins : Joins d) where
-      a-join : (j : Join) × (meaning s n (d .kind) (d .arg) ≡ aJoin j)
+      a-join : (j : Join) × (meaning s n (d .kind) (d .arg) ≡ joinMeaning j)
       a-join = is-join (d .kind) (d .arg) (joins .low) (joins .high) (joins .plain)
 
       pub fits-bad-size : (2 ≤ d .size → d .size ≤ i + 1 → ⊥) → false ≡ isSome (build (cellAt s n) (suc i))
       unfolding place
       fits-bad-size never =
           let (j, m) = a-join in
-          fits-when (aJoin j) false m (λ rs p. close-none j rs (d .size - 1) (λ x y. never (omega arith) (omega (arith, built (cellAt s n) i rs p .sized))))
+          fits-when (joinMeaning j) false m (λ rs p. close-none j rs (d .size - 1) (λ x y. never (omega arith) (omega (arith, built (cellAt s n) i rs p .sized))))
 
       pub fits-join : 2 ≤ d .size → d .size ≤ i + 1 → (b : Bool) →
           ((rs : Rules) → build (cellAt s n) i ≡ some rs → b ≡ isSome (split rs (i - (i + 1 - d .size)))) → b ≡ isSome (build (cellAt s n) (suc i))
@@ -222,7 +222,7 @@ module _ (s : List ℕ) (n : ℕ) where
       fits-join h k b says =
           let (j, m) = a-join in
           let q : d .size - 1 ≡ i - (i + 1 - d .size) = omega arith in
-          fits-when (aJoin j) b m (λ rs p. close-split j rs (d .size - 1) (omega arith) ∙ rw q (sym (says rs p)))
+          fits-when (joinMeaning j) b m (λ rs p. close-split j rs (d .size - 1) (omega arith) ∙ rw q (sym (says rs p)))
 
 -- whether all nodes make one rule
 module _ (f : ℕ → Cell) (n : ℕ) where

@@ -8,7 +8,7 @@ use borrow.Author.Tests.{leb-true, leb-false, lt-leb}
 use Rattle.rules.specs.Rule.{Leaf, named, olderThan, readable, Join, atLeast, all, any}
 use Rattle.image.specs.Kinds.{namedKind, olderThanKind, readableKind, atLeastKind, anyKind}
 use Rattle.image.specs.Encode.{leafKind, joinKind, joinArg}
-use Rattle.image.specs.Decode.{Meaning, aLeaf, aJoin, nothing, meaning}
+use Rattle.image.specs.Decode.{Meaning, leafMeaning, joinMeaning, nothing, meaning}
 use Rattle.image.specs.Inner.Leaves.{isLeaf}
 
 -- ---- kinds of leaves, and others
@@ -45,8 +45,8 @@ join-among any = (omega arith, omega arith)
 
 -- ---- what a node's meaning says of its kind and argument
 abbrev pub Says : ℕ → ℕ → Meaning → Type 0
-Says k a (aLeaf l) = k ≡ leafKind l
-Says k a (aJoin j) = (k ≡ joinKind j) × (a ≡ joinArg j)
+Says k a (leafMeaning l) = k ≡ leafKind l
+Says k a (joinMeaning j) = (k ≡ joinKind j) × (a ≡ joinArg j)
 Says k a nothing = Unit {0}
 
 pub says : (s : List ℕ) (n k a : ℕ) → Says k a (meaning s n k a)
@@ -63,16 +63,16 @@ says s n (suc (suc (suc (suc (suc (suc k)))))) a = tt
 
 -- ---- no leaf, no combinator, no name
 abbrev pub NoLeaf : Meaning → Type 0
-NoLeaf m = (l : Leaf) → m ≡ aLeaf l → ⊥
+NoLeaf m = (l : Leaf) → m ≡ leafMeaning l → ⊥
 
 abbrev pub NoJoin : Meaning → Type 0
-NoJoin m = (j : Join) → m ≡ aJoin j → ⊥
+NoJoin m = (j : Join) → m ≡ joinMeaning j → ⊥
 
 module _ (s : List ℕ) (n k a : ℕ) where
-  kind-of-leaf : (l : Leaf) → meaning s n k a ≡ aLeaf l → k ≡ leafKind l
+  kind-of-leaf : (l : Leaf) → meaning s n k a ≡ leafMeaning l → k ≡ leafKind l
   kind-of-leaf l e = rw e at (says s n k a)
 
-  kind-of-join : (j : Join) → meaning s n k a ≡ aJoin j → k ≡ joinKind j
+  kind-of-join : (j : Join) → meaning s n k a ≡ joinMeaning j → k ≡ joinKind j
   kind-of-join j e = (rw e at (says s n k a)) .0
 
   pub no-leaf : isLeaf k ≡ false → NoLeaf (meaning s n k a)
@@ -84,5 +84,5 @@ module _ (s : List ℕ) (n k a : ℕ) where
   pub leaf-no-join : isLeaf k ≡ true → NoJoin (meaning s n k a)
   leaf-no-join h = no-join (λ lo hi. omega (arith, leaf-low k h))
 
-  pub no-name : (k ≡ namedKind → ⊥) → (w : List ℕ) → meaning s n k a ≡ aLeaf (named w) → ⊥
+  pub no-name : (k ≡ namedKind → ⊥) → (w : List ℕ) → meaning s n k a ≡ leafMeaning (named w) → ⊥
   no-name h w e = h (kind-of-leaf (named w) e)

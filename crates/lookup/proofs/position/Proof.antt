@@ -26,7 +26,7 @@ loop-holds c =
     (rw (c .names-start .ensures) (standing-start _ _ (c .before .before .before .before .pre .0) (c .before .count-of .ensures .0)), omega arith, refl)
 
 length-at-requires : tie.Need-length-at-requires Inv-loop μ-loop
-length-at-requires c κs = let l = c .before .loop in (l .inv .0 .laid, (l .inv .0 .counted, omega arith))
+length-at-requires c κs = let l = c .before .loop in (l .inv .0 .in-bounds, (l .inv .0 .counted, omega arith))
 
 add-same-name : tie.Need-add-same-name Inv-loop μ-loop
 add-same-name c = omega (arith, standing-within (c .before .before .loop .inv .0) (omega arith) (c .length-at .ensures .0))

@@ -39,7 +39,7 @@ append-judged-requires : tie.Need-append-judged-requires
 append-judged-requires c κs =
     let else1 = c .before .before .before .before .before .before .before .before .before .before .before in
     let g = the-table (c .before .before .before) in
-    record { laid = g .laid; small = g .small; room = omega (arith, else1 .if1 .left); due = λ f e. judged-bounds _ _ f (sym (c .judge .ensures .0) ∙ e) }
+    record { in-bounds = g .in-bounds; small = g .small; room = omega (arith, else1 .if1 .left); due = λ f e. judged-bounds _ _ f (sym (c .judge .ensures .0) ∙ e) }
 
 returns-3 : tie.Need-returns-3
 returns-3 c =

@@ -8,7 +8,7 @@ use lib.ListN.{length, take, getD}
 use Rattle.rules.specs.Rule.{named, olderThan, readable, Rule, leaf, node, Rules, nil, more, size, sizes}
 use Rattle.image.specs.Kinds.{namedKind}
 use Rattle.image.specs.Layout.{nodeCountIn, nameOf}
-use Rattle.image.specs.Decode.{Node, nodeAt, Meaning, aLeaf, aJoin, nothing, meaning, Cell, cellAt}
+use Rattle.image.specs.Decode.{Node, nodeAt, Meaning, leafMeaning, joinMeaning, nothing, meaning, Cell, cellAt}
 use Rattle.image.specs.Inner.EncodedAt.{EncodedAt, EncodedAllAt}
 use Rattle.grammar.specs.Reading.{readOf}
 use Rattle.grammar.proofs.Laws.FitsLaws.{read-decodes, read-length}
@@ -20,17 +20,17 @@ use Rattle.read.proofs.Laws.FoundLaws.{Found}
 
 -- ---- the name of a cell; what is no name has none
 abbrev pub nameIn : Meaning → List ℕ
-nameIn (aLeaf (named w)) = w
-nameIn (aLeaf (olderThan d)) = []
-nameIn (aLeaf (readable k)) = []
-nameIn (aJoin j) = []
+nameIn (leafMeaning (named w)) = w
+nameIn (leafMeaning (olderThan d)) = []
+nameIn (leafMeaning (readable k)) = []
+nameIn (joinMeaning j) = []
 nameIn nothing = []
 
-not-named : (m : Meaning) → ((w : List ℕ) → m ≡ aLeaf (named w) → ⊥) → nameIn m ≡ []
-not-named (aLeaf (named w)) h = absurd (h w refl)
-not-named (aLeaf (olderThan d)) h = refl
-not-named (aLeaf (readable k)) h = refl
-not-named (aJoin j) h = refl
+not-named : (m : Meaning) → ((w : List ℕ) → m ≡ leafMeaning (named w) → ⊥) → nameIn m ≡ []
+not-named (leafMeaning (named w)) h = absurd (h w refl)
+not-named (leafMeaning (olderThan d)) h = refl
+not-named (leafMeaning (readable k)) h = refl
+not-named (joinMeaning j) h = refl
 not-named nothing h = refl
 
 pub unnamed : (s : List ℕ) (n k a : ℕ) → (k ≡ namedKind → ⊥) → nameIn (meaning s n k a) ≡ []

@@ -10,7 +10,7 @@ use Rattle.lines.specs.Lines.{lineEnd}
 use Rattle.store_table.specs.Stores.{Entry, entriesIn}
 use Rattle.store_table.specs.Inner.Bounds.{TableInBounds}
 use Rattle.store_table.specs.TableBytes.{tableOf}
-use Rattle.store_table.proofs.Laws.TableBytesLaws.{table-length, sum-few, table-of, table-laid}
+use Rattle.store_table.proofs.Laws.TableBytesLaws.{table-length, sum-few, table-of, table-in-bounds}
 use Rattle.verdict.specs.declared.Verdict.{Verdict}
 use Rattle.verdict.specs.Check.{judgeOf}
 use Rattle.page_text.specs.Report.{verdictText}
@@ -36,7 +36,7 @@ pub record Given (args buffer : List ℕ) (n : ℕ) : Type 0 where
   pub within : n ≤ length buffer
   pub bytes : take n buffer ≡ tableOf all
   pub back : entriesIn (take n buffer) ≡ all
-  pub laid : TableInBounds (take n buffer)
+  pub in-bounds : TableInBounds (take n buffer)
   pub small : length (take n buffer) ≤ 16_452
 
 pub given : {args buffer : List ℕ} {r : Made} {n : ℕ} → length (argumentsIn args) ≤ 64 → MadeOf (storesIn args) buffer r → r ≡ Table n → Given args buffer n
@@ -50,7 +50,7 @@ given {args} {buffer} {r} {n} few m e =
       within = l;
       bytes = b;
       back = rw b (table-of _ es (omega arith) most fit .2);
-      laid = rw b (table-laid _ es (omega arith) most fit);
+      in-bounds = rw b (table-in-bounds _ es (omega arith) most fit);
       small = rw b (omega (arith, table-length es, sum-few es fit));
     }
 

@@ -48,12 +48,12 @@ named-start s a at count h e = record { stands = standing-start s count h e; don
 
 module _ {s a b : List ℕ} {at count k start end : ℕ} (h : Named s a b at count k start end) (room : at + length s + 768 ≤ length a) where
   pub named-length : length b ≡ length a
-  named-length = written-at-length (omega (arith, simp length-append at (ap length (h .rest)), lines-short s (h .stands .laid))) (h .put)
+  named-length = written-at-length (omega (arith, simp length-append at (ap length (h .rest)), lines-short s (h .stands .in-bounds))) (h .put)
 
   pub named-end : count ≤ k → WrittenAt a b at end (confirmedLines (writeOnlyNames (entriesIn s)))
   unfolding confirmedLines writeOnlyNames
   named-end le =
-      let l : length (entriesIn s) ≤ k = omega (arith, length-entries s (h .stands .laid)) in
+      let l : length (entriesIn s) ≤ k = omega (arith, length-entries s (h .stands .in-bounds)) in
       let e = rw (drop-of-length-le (entriesIn s) l, append-nil) at (h .rest) in
       rw e at (h .put)
 
@@ -81,7 +81,7 @@ module _ {s a b : List ℕ} {at count k start end : ℕ} (h : Named s a b at cou
 
       pub named-room : end + length (entryAt s k start len .name) + 12 ≤ length b
       named-room =
-          omega (arith, simp (length-append, shown-length) at (ap length rest-yes), lines-short s (h .stands .laid), named-length)
+          omega (arith, simp (length-append, shown-length) at (ap length rest-yes), lines-short s (h .stands .in-bounds), named-length)
 
       pub named-yes : {c : List ℕ} {now : ℕ} → WrittenAt b c end now (confirmedLine (entryAt s k start len .name)) →
           Named s a c at count (k + 1) (start + len) now

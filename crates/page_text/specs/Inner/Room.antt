@@ -15,14 +15,14 @@ pub record RefusalBounds (text : List ℕ) (f : Refusal) : Type 0 where
 
 -- a page that has room after a position for what there is to say of a refusal
 pub record Room (page : List ℕ) (at : ℕ) (text stores : List ℕ) (f : Refusal) : Type 0 where
-  pub laid : TableInBounds stores
+  pub in-bounds : TableInBounds stores
   pub small : length stores ≤ 16_452
   pub room : at + 32_000 ≤ length page
   pub due : RefusalBounds text f
 
 -- the same for a verdict
 pub record Ready (page : List ℕ) (text stores : List ℕ) (v : Verdict) : Type 0 where
-  pub laid : TableInBounds stores
+  pub in-bounds : TableInBounds stores
   pub small : length stores ≤ 16_452
   pub room : 32_768 ≤ length page
   pub due : (f : Refusal) → v ≡ Refused f → RefusalBounds text f

@@ -42,7 +42,7 @@ up-next o rs q j last t x y z = rw (x, y, z, ← up-to rs j, child-of j q (textO
 module _ (s : List ℕ) (n : ℕ) where
   -- ρ has the k nodes from `from` on, and its root this kind and argument: the walk over its children has come to `end`, where the first
   -- ones, `rest`, are left, and has passed a part of its text
-  pub record Walk (kind arg from k end : ℕ) (ρ : Rule) (rest : Rules) (passed : List ℕ) : Type 0 where
+  pub record TextWalk (kind arg from k end : ℕ) (ρ : Rule) (rest : Rules) (passed : List ℕ) : Type 0 where
     pub join : Join
     pub kinded : kind ≡ joinKind join
     pub standing : EncodedAllAt rest (cellAt s n) from
@@ -50,9 +50,9 @@ module _ (s : List ℕ) (n : ℕ) where
     pub text : textOf ρ ≡ openingOf kind arg ++ (upTo rest join (eqb end (from + k - 1)) ++ passed)
 
   -- so for whatever rule has these nodes, and P holds of what was passed
-  abbrev pub Walks : ℕ → ℕ → ℕ → ℕ → ℕ → (List ℕ → Type 0) → Type 0
-  Walks kind arg from k end P =
-      (ρ : Rule) → size ρ ≡ k → EncodedAt ρ (cellAt s n) from → (rest : Rules) × (passed : List ℕ) × Walk kind arg from k end ρ rest passed × P passed
+  abbrev pub TextWalks : ℕ → ℕ → ℕ → ℕ → ℕ → (List ℕ → Type 0) → Type 0
+  TextWalks kind arg from k end P =
+      (ρ : Rule) → size ρ ≡ k → EncodedAt ρ (cellAt s n) from → (rest : Rules) × (passed : List ℕ) × TextWalk kind arg from k end ρ rest passed × P passed
 
   -- ---- the last of k nodes from `from` on was read as d
   module _ (from k i : ℕ) {d : Node} (read : d ≡ nodeAt s n i) (last : from + k ≡ suc i) where
@@ -66,7 +66,7 @@ module _ (s : List ℕ) (n : ℕ) where
     leaf-text low (node j rs r) e st = absurd (leaf-no-join s n (d .kind) (d .arg) low j (root (node j rs r) e st))
 
     -- no child is passed yet
-    pub walks-start : {P : List ℕ → Type 0} → isLeaf (d .kind) ≡ false → P [] → Walks (d .kind) (d .arg) from k i P
+    pub walks-start : {P : List ℕ → Type 0} → isLeaf (d .kind) ≡ false → P [] → TextWalks (d .kind) (d .arg) from k i P
     unfolding size EncodedAt textOf upTo
     walks-start high p (leaf l) e st = absurd (no-leaf s n (d .kind) (d .arg) high l (root (leaf l) e st))
     walks-start high p (node j rs r) e st =
@@ -93,7 +93,7 @@ module _ (s : List ℕ) (n : ℕ) where
     pub passed : List ℕ
     pub holds : P passed
     pub before : Rules
-    pub next : Walk kind arg from k (end - d .size) ρ before
+    pub next : TextWalk kind arg from k (end - d .size) ρ before
         (frontOf kind (d .kind) ++ (textOf child ++ (backOf kind (d .kind) (eqb end (from + k - 1)) ++ passed)))
 
   -- what surrounds it and what was passed fit into the text
@@ -104,9 +104,9 @@ module _ (s : List ℕ) (n : ℕ) where
   turn-room t = omega (arith, simp length-append at (ap length (t .next .text)))
 
   -- ---- the walk has come to `end`
-  module _ {kind arg : ℕ} (from k end : ℕ) {P : List ℕ → Type 0} (ws : Walks kind arg from k end P) where
+  module _ {kind arg : ℕ} (from k end : ℕ) {P : List ℕ → Type 0} (ws : TextWalks kind arg from k end P) where
     module _ (le : end ≤ from + k - 1) (lt : from < end) {d : Node} (read : d ≡ nodeAt s n (end - 1)) where
-      turn-of : (ρ : Rule) (rest : Rules) (passed : List ℕ) → Walk kind arg from k end ρ rest passed → P passed → Turn kind arg from k end P ρ d
+      turn-of : (ρ : Rule) (rest : Rules) (passed : List ℕ) → TextWalk kind arg from k end ρ rest passed → P passed → Turn kind arg from k end P ρ d
       unfolding size EncodedAt
       turn-of ρ nil passed w h = absurd (omega (arith, w .ends))
       turn-of ρ (more rest q) passed w h =
@@ -145,10 +145,10 @@ module _ (s : List ℕ) (n : ℕ) where
       pub walks-next : {P′ : List ℕ → Type 0} →
           ((q : Rule) (t : List ℕ) → size q ≡ d .size → EncodedAt q (cellAt s n) (end - d .size) → P t →
           P′ (frontOf kind (d .kind) ++ (textOf q ++ (backOf kind (d .kind) (eqb end (from + k - 1)) ++ t)))) →
-          Walks kind arg from k (end - d .size) P′
+          TextWalks kind arg from k (end - d .size) P′
       walks-next f ρ e st = let t = turn ρ e st in (t .before, _, t .next, f (t .child) (t .passed) (t .sized) (t .stands) (t .holds))
 
-    done-of : (ρ : Rule) (rest : Rules) {passed : List ℕ} → end ≤ from → Walk kind arg from k end ρ rest passed → textOf ρ ≡ openingOf kind arg ++ passed
+    done-of : (ρ : Rule) (rest : Rules) {passed : List ℕ} → end ≤ from → TextWalk kind arg from k end ρ rest passed → textOf ρ ≡ openingOf kind arg ++ passed
     unfolding size upTo
     done-of ρ nil le w = w .text
     done-of ρ (more rest q) le w = absurd (omega (arith, w .ends, size-pos q))

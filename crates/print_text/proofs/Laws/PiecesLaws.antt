@@ -12,7 +12,7 @@ use Rattle.rules.specs.Rule.{named, olderThan, readable, Join, atLeast, all, an
 use Rattle.image.specs.Kinds.{atLeastKind, allKind, anyKind}
 use Rattle.image.specs.Layout.{namesStart, nameStart, nameLength}
 use Rattle.image.specs.Encode.{leafKind, joinKind, joinArg}
-use Rattle.image.specs.Decode.{Meaning, aLeaf, aJoin, nothing, meaning, Cell}
+use Rattle.image.specs.Decode.{Meaning, leafMeaning, joinMeaning, nothing, meaning, Cell}
 use Rattle.image.specs.Inner.Leaves.{isLeaf}
 use Rattle.image.specs.Inner.EncodedAt.{EncodedAt}
 use Rattle.image.proofs.Laws.KindLaws.{other-kind, says, NoLeaf, no-leaf}
@@ -23,8 +23,8 @@ use Rattle.duration_text.proofs.Laws.DurationTextLaws.{duration-short}
 
 -- ---- the root of a rule, and its kind
 abbrev pub rootOf : Rule → Meaning
-rootOf (leaf l) = aLeaf l
-rootOf (node j rs r) = aJoin j
+rootOf (leaf l) = leafMeaning l
+rootOf (node j rs r) = joinMeaning j
 
 abbrev pub kindOf : Rule → ℕ
 kindOf (leaf l) = leafKind l
@@ -83,8 +83,8 @@ child-of j q t last = rw (bracketed-of j q, after-child-of j last)
 -- ---- kinds that have no text of a leaf, nothing before their children, nothing after a child
 leaf-none : (m : Meaning) → NoLeaf m → leafTextOf m ≡ []
 unfolding leafTextOf
-leaf-none (aLeaf l) h = absurd (h l refl)
-leaf-none (aJoin j) h = refl
+leaf-none (leafMeaning l) h = absurd (h l refl)
+leaf-none (joinMeaning j) h = refl
 leaf-none nothing h = refl
 
 pub no-leaf-text : (s : List ℕ) (n k a : ℕ) → isLeaf k ≡ false → leafIn s n k a ≡ []

@@ -6,14 +6,14 @@ use lib.Dec.{eqb}
 use Rattle.slices.specs.Text.{bytes}
 use Rattle.rules.specs.Rule.{atLeast, all, any}
 use Rattle.image.specs.Kinds.{atLeastKind, allKind, anyKind}
-use Rattle.image.specs.Decode.{Meaning, aLeaf, aJoin, nothing, meaning}
+use Rattle.image.specs.Decode.{Meaning, leafMeaning, joinMeaning, nothing, meaning}
 use Rattle.print_text.specs.Print.{leafText, opening, afterChild, bracket}
 
 -- a leaf's text
 unfoldable pub leafTextOf : Meaning → List ℕ
 unfolding leafText
-leafTextOf (aLeaf l) = leafText l
-leafTextOf (aJoin j) = []
+leafTextOf (leafMeaning l) = leafText l
+leafTextOf (joinMeaning j) = []
 leafTextOf nothing = []
 
 -- of a node by its kind and argument, in an image s of n nodes

@@ -46,7 +46,7 @@ append-requires-3 c κs =
 append-age-requires-2 : tie.Need-append-age-requires-2
 append-age-requires-2 c κs =
     let entry = c .before .before .before .before .before .before .before .before .before in
-    omega (arith, lines-short (entry .args .stores .now) (entry .pre .laid))
+    omega (arith, lines-short (entry .args .stores .now) (entry .pre .in-bounds))
 
 append-place-requires : tie.Need-append-place-requires
 append-place-requires c κs =

@@ -9,7 +9,7 @@ use Rattle.report.proofs.append_judged.Tie as tie
 append-pass-requires : tie.Need-append-pass-requires
 append-pass-requires c κs =
     let entry = c .before .before .before .before .before .before .before .before .before .before in
-    (entry .pre .laid, omega (arith, verdict-short (entry .args .v)))
+    (entry .pre .in-bounds, omega (arith, verdict-short (entry .args .v)))
 
 append-meaning-requires : tie.Need-append-meaning-requires
 append-meaning-requires c κs =
@@ -22,7 +22,7 @@ append-detail-requires c κs =
     let entry = after-v .before .before .before .before .before .before .before .before .before in
     let g = after-v .v .given in
     record {
-      laid = entry .pre .laid;
+      in-bounds = entry .pre .in-bounds;
       small = entry .pre .small;
       room = omega (arith, verdict-short (entry .args .v), meaning-short (g .0 .0 .number));
       due = entry .pre .due _ (g .1);

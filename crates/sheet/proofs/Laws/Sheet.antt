@@ -28,11 +28,11 @@ use Rattle.print_text.specs.Print.{textOf}
 
 -- a row: a text with the rule that it reads as and how many nodes that has, with the refusal of reading it, with what its rule is
 -- printed as, or with what it is judged for the stores of the sheet
-pub data Row : Type 0 where
-  reads : String → Rule → ℕ → Row
-  refuses : String → ℕ → ℕ → Row
-  prints : String → String → Row
-  judges : String → Verdict → Row
+pub data Example : Type 0 where
+  reads : String → Rule → ℕ → Example
+  refuses : String → ℕ → ℕ → Example
+  prints : String → String → Example
+  judges : String → Verdict → Example
 
 pub data Answer : Type 0 where
   aRule : Rule → ℕ → Answer
@@ -53,14 +53,14 @@ printAnswer (rule r) = aText (textOf r)
 printAnswer (refused f) = aRefusal f
 
 -- what the definitions give for a row's text
-unfoldable pub answerOf : Row → Answer
+unfoldable pub answerOf : Example → Answer
 answerOf (reads t r n) = readAnswer (readOf (bytes t))
 answerOf (refuses t n p) = readAnswer (readOf (bytes t))
 answerOf (prints t u) = printAnswer (readOf (bytes t))
 answerOf (judges t v) = aVerdict (judgeOf (bytes t) home)
 
 -- what the row says
-unfoldable pub expected : Row → Answer
+unfoldable pub expected : Example → Answer
 expected (reads t r n) = aRule r n
 expected (refuses t n p) = aRefusal (refusal n p)
 expected (prints t u) = aText (bytes u)
@@ -76,7 +76,7 @@ two j q r = node j (more nil q) r
 abbrev three : Join → Rule → Rule → Rule → Rule
 three j p q r = node j (more (more nil p) q) r
 
-abbrev pub rows : List Row
+abbrev pub rows : List Example
 rows =
     reads "a && b || c" (two any (two all (name "a") (name "b")) (name "c")) 5 ∷
     reads "a && (b && c)" (two all (name "a") (two all (name "b") (name "c"))) 5 ∷
@@ -109,9 +109,9 @@ unfolding answerOf expected run runEnd part lower equalBy classOf ofClass other 
 rows-computed = refl
 
 -- each row holds
-each : (rs : List Row) → map answerOf rs ≡ map expected rs → (r : Row) → List·Memᴰ r rs → answerOf r ≡ expected r
+each : (rs : List Example) → map answerOf rs ≡ map expected rs → (r : Example) → List·Memᴰ r rs → answerOf r ≡ expected r
 each rs e r (List·Memᴰ·head {x} {xs} q) = rw q (cc)
 each rs e r (List·Memᴰ·tail {x} {xs} m) = each xs (cc) r m
 
-pub sheet : (r : Row) → List·Memᴰ r rows → answerOf r ≡ expected r
+pub sheet : (r : Example) → List·Memᴰ r rows → answerOf r ≡ expected r
 sheet = each rows rows-computed

@@ -33,8 +33,8 @@ returns-3 c = sym (signed (c .before) (c .if3 .left))
 returns-4 : tie.Need-returns-4
 returns-4 c =
     let d = c .before .before .before .before in
-    let bare = behind-word _ _ (d .before .before .before .class-end .ensures) _ (omega arith) (d .class-at .ensures) (c .before .before .if4 .taken) in
-    c .next-if .ensures ∙ ap (nextOfClass _) (c .before .unquoted-at .ensures) ∙ sym bare
+    let unquoted = behind-word _ _ (d .before .before .before .class-end .ensures) _ (omega arith) (d .class-at .ensures) (c .before .before .if4 .taken) in
+    c .next-if .ensures ∙ ap (nextOfClass _) (c .before .unquoted-at .ensures) ∙ sym unquoted
 
 returns-5 : tie.Need-returns-5
 returns-5 c =

@@ -13,7 +13,7 @@ use Rattle.store_table.specs.TableBytes.{modes, lengths, joined}
 use Rattle.store_args.specs.Arguments.{argumentsIn, store, wrong, givenBy, Stores, stores, wrongAt, before, storesFrom, storesIn}
 use Rattle.store_args.proofs.Laws.ArgumentsLaws.{given-fits}
 use Rattle.store_args.specs.Inner.Filling.{StoreArrays, OneOf, Hold, FilledBy, nextArg}
-use Rattle.store_args.proofs.Laws.SplitLaws.{Walk, walk-start, walk-in, walk-on, split-on, split-end}
+use Rattle.store_args.proofs.Laws.SplitLaws.{ArgumentWalk, walk-start, walk-in, walk-on, split-on, split-end}
 use Rattle.store_args.specs.declared.Fault.{Fault}
 use Rattle.store_args.specs.declared.One.{One}
 use Rattle.store_args.specs.declared.One.the-variants.{Used}
@@ -57,7 +57,7 @@ behind-one es e i (wrongAt j f) = refl
 
 -- ---- k arguments are read, up to `at`, and their stores are in the arrays
 pub record Filling (args : List ℕ) (a : StoreArrays) (k at used : ℕ) : Type 0 where
-  pub walk : Walk args k at
+  pub walk : ArgumentWalk args k at
   pub es : List Entry
   pub hold : Hold es k used a
   pub short : used ≤ 255 * k

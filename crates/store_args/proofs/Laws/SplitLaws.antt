@@ -61,15 +61,15 @@ module _ (s : List ℕ) (at : ℕ) where
     next-within = let w = end-within (other 0) s at (omega arith) refl in omega arith
 
 -- ---- where a walk is after k arguments: the next begins at `at`
-pub record Walk (s : List ℕ) (k at : ℕ) : Type 0 where
+pub record ArgumentWalk (s : List ℕ) (k at : ℕ) : Type 0 where
   pub within : at ≤ length s
   pub few : k ≤ at
   pub left : k + length (argumentsIn (drop at s)) ≡ length (argumentsIn s)
 
-pub walk-start : (s : List ℕ) → Walk s 0 0
+pub walk-start : (s : List ℕ) → ArgumentWalk s 0 0
 walk-start s = omega arith
 
-module _ {s : List ℕ} {k at : ℕ} (w : Walk s k at) where
+module _ {s : List ℕ} {k at : ℕ} (w : ArgumentWalk s k at) where
   pub walk-end : length s ≤ at → k ≡ length (argumentsIn s)
   walk-end h = omega (arith, ap length (split-end s at h))
 
@@ -81,5 +81,5 @@ module _ {s : List ℕ} {k at : ℕ} (w : Walk s k at) where
       pub walk-less : length s - next < length s - at
       walk-less = omega (arith, next-within s at h)
 
-      pub walk-on : Walk s (k + 1) next
+      pub walk-on : ArgumentWalk s (k + 1) next
       walk-on = let n = next-within s at h in record { within = omega arith; few = omega arith; left = rw e (omega (arith, ap length (split-on s at h))) }

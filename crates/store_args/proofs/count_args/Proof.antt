@@ -3,12 +3,12 @@ use Prim.Native.Nat.{_-_}
 use native.Mathlib.Omega.{arith}
 use borrow.Author.Needs.{needs}
 use lib.ListN.{length}
-use Rattle.store_args.proofs.Laws.SplitLaws.{Walk, walk-start, walk-less, walk-on, walk-end}
+use Rattle.store_args.proofs.Laws.SplitLaws.{ArgumentWalk, walk-start, walk-less, walk-on, walk-end}
 use Rattle.store_args.proofs.count_args.Statement.{statement}
 use Rattle.store_args.proofs.count_args.Tie as tie
 
 abbrev Inv-loop : tie.InvT-loop
-Inv-loop args count₀ at₀ count at = Walk args count at
+Inv-loop args count₀ at₀ count at = ArgumentWalk args count at
 
 abbrev μ-loop : tie.MeasureT-loop
 μ-loop args count₀ at₀ count at = length args - at

@@ -38,7 +38,7 @@ loop-holds c =
     )
 
 length-at-requires : tie.Need-length-at-requires Inv-loop μ-loop
-length-at-requires c κs = let l = c .before .loop in (l .inv .0 .laid, (l .inv .0 .counted, omega arith))
+length-at-requires c κs = let l = c .before .loop in (l .inv .0 .in-bounds, (l .inv .0 .counted, omega arith))
 
 add-name : tie.Need-add-name Inv-loop μ-loop
 add-name c = omega (arith, inside c)
@@ -50,7 +50,7 @@ find-by-requires : tie.Need-find-by-requires Inv-loop μ-loop
 find-by-requires c κs =
     let h = c .before .before .hash-of .ensures in
     let l = c .before .before .before .before .before .before .loop in
-    (h .0, (h .1, (l .inv .0 .laid, (omega arith, l .inv .2))))
+    (h .0, (h .1, (l .inv .0 .in-bounds, (omega arith, l .inv .2))))
 
 returns : tie.Need-returns Inv-loop μ-loop
 returns c =

@@ -14,14 +14,14 @@ use Rattle.store_table.specs.Inner.Index.{EntryAt, Marked}
 use Rattle.store_table.specs.declared.Twin.the-variants.{No, At}
 
 -- ---- the ready stores are counted by their marks: this many of the first k
-pub record Ready (es : List Entry) (marks : List ℕ) (k ready : ℕ) : Type 0 where
+pub record ReadySoFar (es : List Entry) (marks : List ℕ) (k ready : ℕ) : Type 0 where
   pub few : ready ≤ k
   pub rest : (names : List (List ℕ)) → Marked es names marks → ready + readyCount (drop k es) names ≡ readyCount es names
 
-pub ready-start : (es : List Entry) (marks : List ℕ) → Ready es marks 0 0
+pub ready-start : (es : List Entry) (marks : List ℕ) → ReadySoFar es marks 0 0
 ready-start es marks = record { few = omega arith; rest = λ names m. omega arith }
 
-module _ {es : List Entry} {marks : List ℕ} {k ready : ℕ} (h : Ready es marks k ready) where
+module _ {es : List Entry} {marks : List ℕ} {k ready : ℕ} (h : ReadySoFar es marks k ready) where
   pub ready-end : length es ≤ k → (names : List (List ℕ)) → Marked es names marks → ready ≡ readyCount es names
   unfolding readyCount
   ready-end le names m =
@@ -29,18 +29,18 @@ module _ {es : List Entry} {marks : List ℕ} {k ready : ℕ} (h : Ready es mark
       omega arith
 
   module _ {x : Entry} (e : EntryAt es k x) {now : ℕ} where
-    pub ready-skip : isReadable (x .mode) ≡ false → now ≡ ready → Ready es marks (k + 1) now
+    pub ready-skip : isReadable (x .mode) ≡ false → now ≡ ready → ReadySoFar es marks (k + 1) now
     unfolding readyCount
     ready-skip p z =
         record { few = omega (arith, h .few); rest = λ names m. let q = rw (e, p) at (h .rest names m) in omega arith }
 
     module _ (p : isReadable (x .mode) ≡ true) where
-      pub ready-no : getD marks k 0 < 1 → now ≡ ready → Ready es marks (k + 1) now
+      pub ready-no : getD marks k 0 < 1 → now ≡ ready → ReadySoFar es marks (k + 1) now
       unfolding readyCount
       ready-no n z =
           record { few = omega (arith, h .few); rest = λ names m. let q = rw (e, p, ← m k x e, lt-leb 1 _ n) at (h .rest names m) in omega arith }
 
-      pub ready-yes : 1 ≤ getD marks k 0 → now ≡ ready + 1 → Ready es marks (k + 1) now
+      pub ready-yes : 1 ≤ getD marks k 0 → now ≡ ready + 1 → ReadySoFar es marks (k + 1) now
       unfolding readyCount
       ready-yes y z =
           record { few = omega (arith, h .few); rest = λ names m. let q = rw (e, p, ← m k x e, le-leb 1 _ y) at (h .rest names m) in omega arith }

@@ -5,7 +5,7 @@ use mathlib.Core.List.{List, List·Memᴰ, Memᴰ·cast}
 use Prim.Native.Nat.{ℕ, _<_}
 use Rattle.store_table.specs.Names.{has}
 use Rattle.store_table.specs.Stores.{Entry, countIn, entriesIn, wellMade, allNames}
-use Rattle.store_table.proofs.Laws.StoresLaws.{well-made-laid}
+use Rattle.store_table.proofs.Laws.StoresLaws.{well-made-in-bounds}
 use Rattle.store_table.proofs.Laws.MemberLaws.{same-eq, mem-has}
 use Rattle.store_table.proofs.Laws.WalkLaws.{entries-all}
 use Rattle.store_table.proofs.Laws.EntryLaws.{at-mem, entry-named}
@@ -24,7 +24,7 @@ pub record FoundAt (s w : List ℕ) (k : ℕ) : Type 0 where
 
 module _ (most : ℕ) (s : List ℕ) {w : List ℕ} {r : Found} (made : wellMade most s ≡ true) (finds : Finds w (entriesIn s) (countIn s) r) where
   pub found-none : r ≡ No → has w (allNames (entriesIn s)) ≡ false
-  found-none e = rw (entries-all s (countIn s) (well-made-laid most s made) refl) at (finds .missing e)
+  found-none e = rw (entries-all s (countIn s) (well-made-in-bounds most s made) refl) at (finds .missing e)
 
   pub found-at : {k : ℕ} → r ≡ At k → FoundAt s w k
   found-at {k} e =

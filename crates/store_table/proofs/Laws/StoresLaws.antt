@@ -51,14 +51,14 @@ module _ (most : ℕ) (s : List ℕ) (count total : ℕ) (p : count ≡ leAt s c
       )
 
 -- ---- what the tests say of a well-made table or list
-pub record Made (most : ℕ) (s : List ℕ) : Type 0 where
+pub record WellMadeParts (most : ℕ) (s : List ℕ) : Type 0 where
   pub few : countIn s ≤ 64
   pub long : length s ≡ namesStart (countIn s) + totalIn s
   pub filled : sum (lengthsIn s) ≡ totalIn s
   pub modes : allAtMost most (modesIn s) ≡ true
   pub ascii : allAscii (nameBytesIn s) ≡ true
 
-pub made : (most : ℕ) (s : List ℕ) → wellMade most s ≡ true → Made most s
+pub made : (most : ℕ) (s : List ℕ) → wellMade most s ≡ true → WellMadeParts most s
 unfolding wellMade
 made most s h =
     let t₁ = leb modesStart (length s) in
@@ -74,7 +74,7 @@ made most s h =
     record { few = leb-true _ _ few; long = eqb-true _ _ long; filled = eqb-true _ _ filled; modes = modes; ascii = ascii }
 
 -- its names lie within it
-pub well-made-laid : (most : ℕ) (s : List ℕ) → wellMade most s ≡ true → TableInBounds s
-well-made-laid most s h =
+pub well-made-in-bounds : (most : ℕ) (s : List ℕ) → wellMade most s ≡ true → TableInBounds s
+well-made-in-bounds most s h =
     let m = made most s h in
     record { arrays = omega (arith, m .long); names = omega (arith, m .long, m .filled); few = m .few }

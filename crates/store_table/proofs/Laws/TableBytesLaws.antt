@@ -13,7 +13,7 @@ use Rattle.slices.specs.Text.{allAscii, AllBytes}
 use Rattle.slices.proofs.Laws.AsciiLaws.{bytes-ascii, append-ascii}
 use Rattle.store_table.specs.Stores.{Entry, entriesFrom, entriesIn, sum, allAtMost, wellMade, modesStart, lengthsStart, namesStart}
 use Rattle.store_table.specs.Inner.Bounds.{TableInBounds, countStart, totalStart}
-use Rattle.store_table.proofs.Laws.StoresLaws.{made-names, well-made-laid}
+use Rattle.store_table.proofs.Laws.StoresLaws.{made-names, well-made-in-bounds}
 use Rattle.store_table.specs.TableBytes.{modes, lengths, joined, tableOf}
 
 -- ---- how long the parts are
@@ -125,5 +125,5 @@ module _ (most : ℕ) (es : List Entry) (low : most ≤ 255) (few : length es �
   table-of = (table-bytes, well-made, entries-in)
 
   -- its names lie within it
-  pub table-laid : TableInBounds (tableOf es)
-  table-laid = well-made-laid most (tableOf es) well-made
+  pub table-in-bounds : TableInBounds (tableOf es)
+  table-in-bounds = well-made-in-bounds most (tableOf es) well-made

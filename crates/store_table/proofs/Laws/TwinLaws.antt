@@ -7,7 +7,7 @@ use native.Mathlib.Omega.{arith}
 use lib.ListN.{length}
 use Rattle.store_table.specs.Names.{has}
 use Rattle.store_table.specs.Stores.{Entry, isTable, entriesIn, twinFrom, twinOf}
-use Rattle.store_table.proofs.Laws.StoresLaws.{made, well-made-laid}
+use Rattle.store_table.proofs.Laws.StoresLaws.{made, well-made-in-bounds}
 use Rattle.store_table.proofs.Laws.WalkLaws.{length-entries}
 use Rattle.store_table.specs.declared.Twin.{Twin}
 use Rattle.store_table.specs.declared.Twin.the-variants.{At}
@@ -23,4 +23,4 @@ twin-below seen i (x ∷ es) k e = twin-step (has (x .name) seen) i k es e (twin
 
 pub twin-index : (s : List ℕ) (k : ℕ) → isTable s ≡ true → twinOf (entriesIn s) ≡ At k → k < 64
 unfolding twinOf
-twin-index s k t e = omega (arith, twin-below [] 0 (entriesIn s) k e, made 2 s t .few, length-entries s (well-made-laid 2 s t))
+twin-index s k t e = omega (arith, twin-below [] 0 (entriesIn s) k e, made 2 s t .few, length-entries s (well-made-in-bounds 2 s t))

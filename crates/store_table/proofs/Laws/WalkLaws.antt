@@ -52,7 +52,7 @@ length-of s k h e lt = rw e (sym (part-get s (lengthsStart (countIn s)) (countIn
 
 pub standing-start : (s : List ℕ) (count : ℕ) → TableInBounds s → count ≡ countIn s → EntryWalk s count 0 (namesStart count)
 unfolding entriesIn
-standing-start s count h e = record { laid = h; counted = e; fills = omega (arith, h .names); rest = rw e }
+standing-start s count h e = record { in-bounds = h; counted = e; fills = omega (arith, h .names); rest = rw e }
 
 -- entry k, whose name has the bytes from `at` up to `at + len`
 abbrev pub entryAt : List ℕ → ℕ → ℕ → ℕ → Entry
@@ -61,7 +61,7 @@ entryAt s k at len = record { mode = getD (modesIn s) k 0; name = take (at + len
 -- one entry more, of this length
 module _ {s : List ℕ} {count k at : ℕ} (h : EntryWalk s count k at) (lt : k < count) {len : ℕ} (e : len ≡ lengthAt s k) where
   length-at : len ≡ getD s (lengthsStart (countIn s) + k) 0
-  length-at = e ∙ sym (length-of s k (h .laid) refl (omega arith))
+  length-at = e ∙ sym (length-of s k (h .in-bounds) refl (omega arith))
 
   rest-on : drop k (entriesIn s) ≡ entryAt s k at len ∷ entriesFrom (drop (k + 1) (modesIn s)) (drop (k + 1) (lengthsIn s)) (drop (at + len) s)
   unfolding entriesFrom
@@ -83,7 +83,7 @@ module _ {s : List ℕ} {count k at : ℕ} (h : EntryWalk s count k at) (lt : k 
   pub standing-next : EntryWalk s count (k + 1) (at + len)
   standing-next =
       record {
-        laid = h .laid;
+        in-bounds = h .in-bounds;
         counted = h .counted;
         fills = standing-within;
         rest = sym (drop-drop 1 k (entriesIn s)) ∙ ap (drop 1) rest-on;

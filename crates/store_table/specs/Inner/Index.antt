@@ -30,7 +30,7 @@ hashOf w = (keyOf w / 4294967296 + keyOf w % 4294967296) * 1640531527 / 16777216
 -- where a walk is after k entries: the next name begins at `at`, the names that are left lie within the bytes, and the
 -- entries that are left are cut from there
 pub record EntryWalk (s : List ℕ) (count k at : ℕ) : Type 0 where
-  pub laid : TableInBounds s
+  pub in-bounds : TableInBounds s
   pub counted : count ≡ countIn s
   pub fills : at + sum (drop k (lengthsIn s)) ≤ length s
   pub rest : drop k (entriesIn s) ≡ entriesFrom (drop k (modesIn s)) (drop k (lengthsIn s)) (drop at s)

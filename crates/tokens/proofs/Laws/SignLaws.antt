@@ -52,9 +52,9 @@ module _ (s : List ℕ) (p b : ℕ) where
       (eq-or-lt-of-le h)
 
   -- an unquoted word is no bracket and no comma
-  bare-off : (k : ℕ) → k ≤ comma → Out k (unquotedAt s p)
+  unquoted-off : (k : ℕ) → k ≤ comma → Out k (unquotedAt s p)
   unfolding nextOfClass unquotedAt unquotedTo
-  bare-off k h =
+  unquoted-off k h =
       let w = part s p (runEnd (ofClass word) s p) in
       by-cond (Out k) (equalIgnoringCase w (bytes "and")) (λ _. apart k ampersand _ (λ e. omega arith))
       (λ _. by-cond (Out k) (equalIgnoringCase w (bytes "or")) (λ _. apart k bar _ (λ e. omega arith)) (λ _. refl))
@@ -96,7 +96,7 @@ module _ (s : List ℕ) (at : ℕ) {p : ℕ} (e : p ≡ runEnd (ofClass blank) s
     behind-bracket l m i = token-here ∙ rw i (bracket-here s p (getD s p 0) k l m)
 
     pub behind-other : k ≤ comma → (f ≡ k → ⊥) → nextOfClass k (tokenAt s at) ≡ Off
-    behind-other m i = token-here ∙ off-here s p (getD s p 0) k f i (λ _. bare-off s p (getD s p 0) k m)
+    behind-other m i = token-here ∙ off-here s p (getD s p 0) k f i (λ _. unquoted-off s p (getD s p 0) k m)
 
     pub behind-sign : ampersand ≤ k → k ≤ bar → f ≡ k → nextOfClass k (tokenAt s at) ≡ cond (doubled s p) (To (p + 2)) Off
     behind-sign l m i = token-here ∙ rw i (sign-here s p (getD s p 0) k l m)

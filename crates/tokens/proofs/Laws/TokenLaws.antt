@@ -54,9 +54,9 @@ module _ (s : List ℕ) (at p : ℕ) (from : at ≤ p) (in-text : p < length s) 
       (λ q. omega (arith, ltb-true (runEnd (other m) s (p + 1)) (length s) q, end-ge (other m) s (p + 1)))
       (λ _. omega arith)
 
-  bare : classOf (getD s p 0) ≡ word → Lexed (length s) at (unquotedAt s p)
+  unquoted : classOf (getD s p 0) ≡ word → Lexed (length s) at (unquotedAt s p)
   unfolding unquotedAt unquotedTo
-  bare q =
+  unquoted q =
       let on = end-on (ofClass word) s p in-text (of-class (getD s p 0) (sym q) refl) in
       let ge = end-ge (ofClass word) s (p + 1) in
       let le = end-le (ofClass word) s p (omega arith) in
@@ -74,7 +74,7 @@ module _ (s : List ℕ) (at p : ℕ) (from : at ≤ p) (in-text : p < length s) 
       (λ _. by-cond (Lexed (length s) at) (eqb k ampersand) (λ _. sign (And p (p + 2)) (λ l. omega arith))
       (λ _. by-cond (Lexed (length s) at) (eqb k bar) (λ _. sign (Or p (p + 2)) (λ l. omega arith))
       (λ _. by-cond (Lexed (length s) at) (eqb k quote) (λ _. quoted (getD s p 0))
-      (λ _. by-cond (Lexed (length s) at) (eqb k word) (λ q. bare (eqb-true _ _ q))
+      (λ _. by-cond (Lexed (length s) at) (eqb k word) (λ q. unquoted (eqb-true _ _ q))
       (λ _. omega arith)))))))
 
 pub lexed : (s : List ℕ) (at : ℕ) → Lexed (length s) at (tokenAt s at)

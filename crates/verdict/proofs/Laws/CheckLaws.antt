@@ -22,9 +22,9 @@ use Rattle.read.specs.Outcome.{Outcome, outcome, readingOf}
 use Rattle.read.specs.declared.Reading.{Reading}
 use Rattle.read.specs.declared.Reading.the-variants.{Read as Written}
 use Rattle.store_table.specs.Stores.{Entry, isTable, countIn, entriesIn, writeOnlyNames, twinOf}
-use Rattle.store_table.proofs.Laws.StoresLaws.{well-made-laid}
+use Rattle.store_table.proofs.Laws.StoresLaws.{well-made-in-bounds}
 use Rattle.store_table.proofs.Laws.WalkLaws.{length-entries}
-use Rattle.store_table.specs.declared.Twin.the-variants.{No as Lone, At as Twinned}
+use Rattle.store_table.specs.declared.Twin.the-variants.{No as NoTwin, At as Twinned}
 use Rattle.evaluate.specs.Evict.{envOf, evict}
 use Rattle.image.proofs.Laws.InsideLaws.{decode-whole}
 use Rattle.verdict.specs.Check.{oldest, evictsUnconfirmed, evictsOnArchive, verdict, unknownIn, checkStores, checkRule, checkOf}
@@ -54,12 +54,12 @@ module _ (r : Rule) (s : List ℕ) where
   unfolding checkRule
   refused-18 table e = rw (table, e)
 
-  by-stores : isTable s ≡ true → twinOf (entriesIn s) ≡ Lone → checkStores r (entriesIn s) ≡ checkRule r s
+  by-stores : isTable s ≡ true → twinOf (entriesIn s) ≡ NoTwin → checkStores r (entriesIn s) ≡ checkRule r s
   unfolding checkRule
-  by-stores table lone = rw (table, lone)
+  by-stores table no-twin = rw (table, no-twin)
 
-  pub passed-none : isTable s ≡ true → twinOf (entriesIn s) ≡ Lone → countIn s ≡ 0 → Pass ≡ checkRule r s
-  passed-none table lone e = go (entriesIn s) (length-entries s (well-made-laid _ s table)) ∙ by-stores table lone
+  pub passed-none : isTable s ≡ true → twinOf (entriesIn s) ≡ NoTwin → countIn s ≡ 0 → Pass ≡ checkRule r s
+  passed-none table no-twin e = go (entriesIn s) (length-entries s (well-made-in-bounds _ s table)) ∙ by-stores table no-twin
     where
       go : (es : List Entry) → length es ≡ countIn s → Pass ≡ checkStores r es
       go [] q = refl
@@ -68,7 +68,7 @@ module _ (r : Rule) (s : List ℕ) where
   -- 20: there are stores, and u is what a look for unknown names found
   module _ (h : WithStores s) {u : Unknown} (found : u ≡ unknownIn (entriesIn s) r 0) where
     pub by-tests : verdict u (evictsUnconfirmed r (entriesIn s)) (evictsOnArchive r (entriesIn s)) ≡ checkRule r s
-    by-tests = rw found (go (entriesIn s) (length-entries s (well-made-laid _ s (h .table)))) ∙ by-stores (h .table) (h .lone)
+    by-tests = rw found (go (entriesIn s) (length-entries s (well-made-in-bounds _ s (h .table)))) ∙ by-stores (h .table) (h .no-twin)
       where
         go : (es : List Entry) → length es ≡ countIn s → verdict (unknownIn es r 0) (evictsUnconfirmed r es) (evictsOnArchive r es) ≡ checkStores r es
         go [] q = absurd (h .stored (sym q))

@@ -12,12 +12,12 @@ use Rattle.slices.proofs.Laws.WrittenLaws.{after-set}
 use Rattle.rules.specs.Rule.{Leaf}
 use Rattle.image.specs.Kinds.{namedKind, olderThanKind, readableKind}
 use Rattle.image.specs.Layout.{nameOf}
-use Rattle.image.specs.Decode.{aLeaf, meaning, cellAt}
+use Rattle.image.specs.Decode.{leafMeaning, meaning, cellAt}
 use Rattle.store_table.specs.Names.{has}
 use Rattle.store_table.specs.Stores.{Entry, readOnly, writeOnly, isReadable, writeOnlyNames, readyCount, twinOf}
 use Rattle.store_table.proofs.Laws.MemberLaws.{has-mem, mem-has}
 use Rattle.store_table.proofs.Laws.EntryLaws.{write-only-entry, entry-write-only, one-of-name, ready-or-none}
-use Rattle.store_table.specs.declared.Twin.the-variants.{No as Lone}
+use Rattle.store_table.specs.declared.Twin.the-variants.{No as NoTwin}
 use Rattle.evaluate.specs.Evict.{Env, envOf, leafSays}
 use Rattle.evaluate.proofs.Laws.MeaningLaws.{says-named, says-older, says-readable}
 use Rattle.evaluate.proofs.Laws.MonotoneLaws.{both-ways}
@@ -27,8 +27,8 @@ use Rattle.verdict.specs.Inner.Grades.{nameGrade, Graded, GradedUpTo}
 -- a leaf that says the same of both
 same-graded : {l : Leaf} {es : List Entry} (b : Bool) → b ≡ leafSays l (envOf es oldest []) →
     b ≡ leafSays l (envOf es oldest (writeOnlyNames es)) → Graded l es (cond b 2 0)
-same-graded true p q = record { bare = p; archived = q }
-same-graded false p q = record { bare = p; archived = q }
+same-graded true p q = record { unconfirmed = p; archived = q }
+same-graded false p q = record { unconfirmed = p; archived = q }
 
 -- no name is one of none
 none-has : (w : List ℕ) → has w [] ≡ false
@@ -36,7 +36,7 @@ unfolding has
 none-has w = refl
 
 -- ---- of stores of which no two share a name
-module _ (es : List Entry) (lone : twinOf es ≡ Lone) where
+module _ (es : List Entry) (no-twin : twinOf es ≡ NoTwin) where
   -- a store's name is a write-only store's exactly where its mode is write-only
   write-only-has : (x : Entry) → List·Memᴰ x es → has (x .name) (writeOnlyNames es) ≡ eqb (x .mode) writeOnly
   write-only-has x m = both-ways to from
@@ -44,7 +44,7 @@ module _ (es : List Entry) (lone : twinOf es ≡ Lone) where
       to : has (x .name) (writeOnlyNames es) ≡ true → eqb (x .mode) writeOnly ≡ true
       to h =
           let (y, k, only, p) = write-only-entry (x .name) es (has-mem (x .name) (writeOnlyNames es) h) in
-          let same : x .mode ≡ y .mode = ap (λ (z : Entry). z .mode) (one-of-name es lone x y m k (sym p)) in
+          let same : x .mode ≡ y .mode = ap (λ (z : Entry). z .mode) (one-of-name es no-twin x y m k (sym p)) in
           eq-eqb (x .mode) writeOnly (omega arith)
 
       from : eqb (x .mode) writeOnly ≡ true → has (x .name) (writeOnlyNames es) ≡ true
@@ -67,7 +67,7 @@ module _ (es : List Entry) (lone : twinOf es ≡ Lone) where
   ready-archived = none-ready (writeOnlyNames es) write-only-unready
 
   -- ---- the grade of a leaf, by its kind
-  module _ (s : List ℕ) (n : ℕ) {k : ℕ} (a : ℕ) (l : Leaf) (e : meaning s n k a ≡ aLeaf l) where
+  module _ (s : List ℕ) (n : ℕ) {k : ℕ} (a : ℕ) (l : Leaf) (e : meaning s n k a ≡ leafMeaning l) where
     pub older-graded : {b : Bool} → k ≡ olderThanKind → leb a oldest ≡ b → Graded l es (cond b 2 0)
     older-graded {b} h p =
         same-graded b (sym p ∙ says-older s n a (envOf es oldest []) l e h) (sym p ∙ says-older s n a (envOf es oldest (writeOnlyNames es)) l e h)
@@ -87,10 +87,10 @@ module _ (es : List Entry) (lone : twinOf es ≡ Lone) where
         keeps = says-named s n a (envOf es oldest []) l e h named-as (sym (none-has w))
 
         by : (b : Bool) → b ≡ leafSays l (envOf es oldest (writeOnlyNames es)) → Graded l es (cond b 1 0)
-        by true q = record { bare = keeps; archived = q }
-        by false q = record { bare = keeps; archived = q }
+        by true q = record { unconfirmed = keeps; archived = q }
+        by false q = record { unconfirmed = keeps; archived = q }
 
 -- ---- the grades of one node more
 pub graded-next : (s : List ℕ) (n : ℕ) (grades : List ℕ) (g : ℕ) {es : List Entry} {i : ℕ} → GradedUpTo s n i grades es →
-    i < length grades → ((l : Leaf) → cellAt s n i .what ≡ aLeaf l → Graded l es g) → GradedUpTo s n (i + 1) (set grades i g) es
+    i < length grades → ((l : Leaf) → cellAt s n i .what ≡ leafMeaning l → Graded l es g) → GradedUpTo s n (i + 1) (set grades i g) es
 graded-next s n grades g {es} {i} h lt here j less l e = after-set (Graded l es) grades i g j lt (λ p. here l (rw p at e)) (λ q. h j (omega arith) l e)

@@ -9,7 +9,7 @@ use Rattle.rules.specs.Rule.{Rule}
 use Rattle.slices.specs.Text.{allAscii}
 use Rattle.store_table.specs.Names.{has}
 use Rattle.store_table.specs.Stores.{entriesIn, writeOnlyNames}
-use Rattle.store_table.proofs.Laws.StoresLaws.{well-made-laid}
+use Rattle.store_table.proofs.Laws.StoresLaws.{well-made-in-bounds}
 use Rattle.store_table.proofs.Laws.WalkLaws.{length-entries}
 use Rattle.store_table.proofs.Laws.MemberLaws.{has-mem, mem-has}
 use Rattle.store_table.proofs.Laws.EntryLaws.{entry-name, name-entry, entry-named, write-only-entry, entry-write-only, write-only-few}
@@ -56,8 +56,8 @@ nothing-is =
 pub write-only-is : (s : List ℕ) → Table s → (l : List ℕ) × JustWriteOnly s l
 write-only-is s t =
     let es = entriesIn s in
-    let laid = well-made-laid _ s (t .made) in
-    let (b, m, e) = list-of (writeOnlyNames es) (omega (arith, write-only-few es, length-entries s laid, laid .few))
+    let in-bounds = well-made-in-bounds _ s (t .made) in
+    let (b, m, e) = list-of (writeOnlyNames es) (omega (arith, write-only-few es, length-entries s in-bounds, in-bounds .few))
     (λ w h. named-fit w (mem-write-only s w h)) in
     let c : Confirmed (listOf (writeOnlyNames es)) = record { bytes = b; made = m } in (
       listOf (writeOnlyNames es),

@@ -16,7 +16,7 @@ use Rattle.grammar.proofs.Laws.PlaceLaws.{read-place}
 use Rattle.store_table.specs.Stores.{Entry, isTable, countIn, entriesIn, twinOf}
 use Rattle.store_table.proofs.Laws.TwinLaws.{twin-index}
 use Rattle.store_table.specs.declared.Twin.{Twin}
-use Rattle.store_table.specs.declared.Twin.the-variants.{No as Lone, At as Twinned}
+use Rattle.store_table.specs.declared.Twin.the-variants.{No as NoTwin, At as Twinned}
 use Rattle.image.proofs.Laws.InsideLaws.{decode-whole}
 use Rattle.verdict.specs.Check.{isUnknown, first, unknownIn, unknownAll, evictsUnconfirmed, evictsOnArchive, verdict, checkRule, checkDecoded, checkOf, judgeRead, judgeOf}
 use Rattle.verdict.proofs.Laws.CheckLaws.{refused-17, refused-18, passed-none, by-tests}
@@ -74,15 +74,15 @@ module _ (r : Rule) (s : List ℕ) (f : Refusal) (due : checkRule r s ≡ Refuse
   by-verdict No false true h e = by e (record { place = omega arith; store = λ n. omega arith })
   by-verdict No false false h e = absurd (let z : _≡_ {A = ℕ} 0 1 = cc in omega arith)
 
-  by-count : isTable s ≡ true → twinOf (entriesIn s) ≡ Lone → (n : ℕ) → countIn s ≡ n → Placed (size r) f
-  by-count table lone zero e = absurd (let z : _≡_ {A = ℕ} 0 1 = cc (passed-none r s table lone e) in omega arith)
-  by-count table lone (suc n) e =
+  by-count : isTable s ≡ true → twinOf (entriesIn s) ≡ NoTwin → (n : ℕ) → countIn s ≡ n → Placed (size r) f
+  by-count table no-twin zero e = absurd (let z : _≡_ {A = ℕ} 0 1 = cc (passed-none r s table no-twin e) in omega arith)
+  by-count table no-twin (suc n) e =
       by-verdict (unknownIn (entriesIn s) r 0) (evictsUnconfirmed r (entriesIn s)) (evictsOnArchive r (entriesIn s))
       (wider _ _ (unknownIn (entriesIn s) r 0) (omega arith) (unknown-below (entriesIn s) r 0))
-      (by-tests r s (record { table = table; lone = lone; stored = λ z. omega arith }) refl)
+      (by-tests r s (record { table = table; no-twin = no-twin; stored = λ z. omega arith }) refl)
 
   by-twin : isTable s ≡ true → (t : Twin) → twinOf (entriesIn s) ≡ t → Placed (size r) f
-  by-twin table Lone e = by-count table e (countIn s) refl
+  by-twin table NoTwin e = by-count table e (countIn s) refl
   by-twin table (Twinned i) e =
       let low = twin-index s i table e in
       by (refused-18 r s table e) (record { place = omega arith; store = λ n. low })

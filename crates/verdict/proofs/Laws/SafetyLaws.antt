@@ -12,7 +12,7 @@ use Rattle.rules.specs.Rule.{Rule}
 use Rattle.store_table.specs.Names.{has}
 use Rattle.store_table.specs.Stores.{isReadable, entriesIn, twinOf, readOnly, writeOnly, allNames, writeOnlyNames}
 use Rattle.store_table.proofs.Laws.MemberLaws.{has-mem, mem-has}
-use Rattle.store_table.specs.declared.Twin.the-variants.{No as Lone}
+use Rattle.store_table.specs.declared.Twin.the-variants.{No as NoTwin}
 use Rattle.store_table.proofs.Laws.DistinctLaws.{no-twin-distinct}
 use Rattle.store_table.proofs.Laws.EntryLaws.{entry-mode, name-entry, entry-named, OneReady, NoneReady, ready-or-none}
 use Rattle.evaluate.specs.Evict.{envOf, evict}
@@ -67,12 +67,12 @@ unreadable-mode {mode} le e = omega (arith, leb-false mode readOnly e)
 
 -- ---- a table with at least one store and no name twice
 module _ {s : List ℕ} (t : Table s) (r : Rule) where
-  no-twin : twinOf (entriesIn s) ≡ Lone
+  no-twin : twinOf (entriesIn s) ≡ NoTwin
   no-twin = no-twin-distinct (entriesIn s) .1 (t .distinct)
 
   -- check's answer is the verdict of the three tests
   check-verdict : checkRule r s ≡ verdict (unknownIn (entriesIn s) r 0) (evictsUnconfirmed r (entriesIn s)) (evictsOnArchive r (entriesIn s))
-  check-verdict = sym (by-tests r s (record { table = t .made; lone = no-twin; stored = λ e. omega (arith, t .stored) }) refl)
+  check-verdict = sym (by-tests r s (record { table = t .made; no-twin = no-twin; stored = λ e. omega (arith, t .stored) }) refl)
 
   known-no : Known r s → unknownIn (entriesIn s) r 0 ≡ No
   known-no k = no-unknown (entriesIn s) r 0 (λ w m. stored w (k w m))

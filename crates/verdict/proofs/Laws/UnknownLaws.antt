@@ -9,7 +9,7 @@ use native.Mathlib.Omega.{arith}
 use Rattle.rules.specs.Rule.{named, olderThan, readable, Rule, leaf, node, Rules, nil, more, size, sizes}
 use Rattle.image.specs.Kinds.{namedKind}
 use Rattle.image.specs.Layout.{nameOf}
-use Rattle.image.specs.Decode.{Node, nodeAt, Meaning, aLeaf, aJoin, nothing, meaning, Cell, cellAt}
+use Rattle.image.specs.Decode.{Node, nodeAt, Meaning, leafMeaning, joinMeaning, nothing, meaning, Cell, cellAt}
 use Rattle.image.specs.Inner.EncodedAt.{EncodedAt, EncodedAllAt}
 use Rattle.store_table.specs.Names.{has}
 use Rattle.store_table.specs.Stores.{Entry, allNames}
@@ -33,8 +33,8 @@ first-joined (At i) v w = refl
 -- cell i, if it is a name that is no store's
 unfoldable pub unknownCell : List Entry → Meaning → ℕ → Unknown
 unfolding isUnknown
-unknownCell stores (aLeaf l) i = cond (isUnknown stores l) (At i) No
-unknownCell stores (aJoin j) i = No
+unknownCell stores (leafMeaning l) i = cond (isUnknown stores l) (At i) No
+unknownCell stores (joinMeaning j) i = No
 unknownCell stores nothing i = No
 
 -- the first of the first i cells that is one
@@ -85,12 +85,12 @@ module _ (stores : List Entry) (f : ℕ → Cell) where
           sym none ∙ rw p (cells-rule r 0 st)
 
 -- ---- a cell that is no name
-not-named : (stores : List Entry) (m : Meaning) (i : ℕ) → ((w : List ℕ) → m ≡ aLeaf (named w) → ⊥) → unknownCell stores m i ≡ No
+not-named : (stores : List Entry) (m : Meaning) (i : ℕ) → ((w : List ℕ) → m ≡ leafMeaning (named w) → ⊥) → unknownCell stores m i ≡ No
 unfolding unknownCell isUnknown
-not-named stores (aLeaf (named w)) i h = absurd (h w refl)
-not-named stores (aLeaf (olderThan d)) i h = refl
-not-named stores (aLeaf (readable k)) i h = refl
-not-named stores (aJoin j) i h = refl
+not-named stores (leafMeaning (named w)) i h = absurd (h w refl)
+not-named stores (leafMeaning (olderThan d)) i h = refl
+not-named stores (leafMeaning (readable k)) i h = refl
+not-named stores (joinMeaning j) i h = refl
 not-named stores nothing i h = refl
 
 -- ---- what a node that was read says of its cell

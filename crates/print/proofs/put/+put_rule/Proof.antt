@@ -17,7 +17,7 @@ use Rattle.image.proofs.Laws.CellLaws.{name-inside}
 use Rattle.slices.specs.Text.{WrittenAt}
 use Rattle.slices.proofs.Laws.WrittenLaws.{written-at-none, written-at-before, written-at-length}
 use Rattle.print_text.specs.Print.{textOf}
-use Rattle.print_text.proofs.Laws.ChildrenLaws.{Walks, walks-start, Turn, turn, walks-next, walks-done, leaf-text}
+use Rattle.print_text.proofs.Laws.ChildrenLaws.{TextWalks, walks-start, Turn, turn, walks-next, walks-done, leaf-text}
 use Rattle.print_text.proofs.Laws.PrependLaws.{pieces-room, child-room, put-start}
 use Rattle.print.proofs.put.put_rule.Reads as put-rule
 use Rattle.print.proofs.put.put_rule.Kinds as put-rule-kinds
@@ -62,7 +62,7 @@ given t = (
 
 abbrev put-rule-Inv-loop : put-rule-lts.InvT-loop
 put-rule-Inv-loop image n from size text₀ end at kind arg stop₀ to₀ text stop to =
-    (stop ≤ from + size - 1) × Walks image n kind arg from size stop (λ t. WrittenAt text₀ text to end t)
+    (stop ≤ from + size - 1) × TextWalks image n kind arg from size stop (λ t. WrittenAt text₀ text to end t)
 
 abbrev put-rule-μ-loop : put-rule-lts.MeasureT-loop
 put-rule-μ-loop image n from size text₀ end at kind arg stop₀ to₀ text stop to = stop

@@ -15,7 +15,7 @@ use Rattle.image.proofs.Laws.EncodeLaws.{size-pos}
 use Rattle.image.proofs.Laws.CellLaws.{name-inside}
 use Rattle.print_text.specs.Print.{textOf}
 use Rattle.print_text.specs.Inner.Pieces.{openingOf}
-use Rattle.print_text.proofs.Laws.ChildrenLaws.{Walks, walks-start, Turn, turn, turn-room, walks-next, walks-done, leaf-text, text-short}
+use Rattle.print_text.proofs.Laws.ChildrenLaws.{TextWalks, walks-start, Turn, turn, turn-room, walks-next, walks-done, leaf-text, text-short}
 use Rattle.print_text.proofs.size.text_size.Reads as text-size
 use Rattle.print_text.proofs.size.text_size.Kinds as text-size-kinds
 use Rattle.print_text.proofs.size.+text_size.Lts-text_size as text-size-lts
@@ -59,7 +59,7 @@ given t = (
 
 abbrev text-size-Inv-loop : text-size-lts.InvT-loop
 text-size-Inv-loop image n from size at kind arg end₀ total₀ between end total =
-    (end ≤ from + size - 1) × Walks image n kind arg from size end (λ t. total ≡ length (openingOf kind arg) + length t)
+    (end ≤ from + size - 1) × TextWalks image n kind arg from size end (λ t. total ≡ length (openingOf kind arg) + length t)
 
 abbrev text-size-μ-loop : text-size-lts.MeasureT-loop
 text-size-μ-loop image n from size at kind arg end₀ total₀ between end total = end
@@ -176,7 +176,7 @@ counted-next : (t : ℕ) (c : text-size-lts.After-around-size (given t) (text-si
     let i = c .before .before .before .loop in
     let end = i .end - c .before .node-at2 .result .size in
     (end ≤ s .from + s .size - 1)
-    × Walks (s .image .now) (s .n) (d .kind) (d .arg) (s .from) (s .size) end
+    × TextWalks (s .image .now) (s .n) (d .kind) (d .arg) (s .from) (s .size) end
     (λ t. i .total + c .around-size .result + r ≡ length (openingOf (d .kind) (d .arg)) + length t)
 counted-next t c h =
     let i = c .before .before .before .loop .inv in (

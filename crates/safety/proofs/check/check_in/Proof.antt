@@ -5,7 +5,7 @@ use native.Mathlib.Omega.{arith}
 use borrow.Author.Needs.{needs}
 use borrow.Author.Tests.{not-true, not-false}
 use Rattle.store_table.specs.Stores.{isTable, entriesIn, twinOf}
-use Rattle.store_table.proofs.Laws.StoresLaws.{well-made-laid}
+use Rattle.store_table.proofs.Laws.StoresLaws.{well-made-in-bounds}
 use Rattle.store_table.proofs.Laws.BlankLaws.{zeros-blank}
 use Rattle.store_table.specs.declared.Twin.the-variants.{No}
 use Rattle.verdict.specs.Inner.Grades.{WithStores}
@@ -19,10 +19,10 @@ the-table : (c : tie.Else1) →
     isTable (entry .args .stores .now) ≡ true
 the-table c = sym (c .before .is-table .ensures) ∙ not-false _ (c .if1 .left)
 
-the-lone : (c : tie.After-enum-told) →
+the-no-twin : (c : tie.After-enum-told) →
     let entry = c .before .before .before .before .before .before .before .before .before .before in
     twinOf (entriesIn (entry .args .stores .now)) ≡ No
-the-lone c = sym (c .before .before .twin-of .ensures .0) ∙ c .enum-told .given .1
+the-no-twin c = sym (c .before .before .twin-of .ensures .0) ∙ c .enum-told .given .1
 
 the-stores : (c : tie.Else2) →
     let entry = c .before .before .before .before .before .before .before .before .before .before .before .before in
@@ -31,7 +31,7 @@ the-stores c =
     let else1 = c .before .before .before .before .before .before .before in
     record {
       table = the-table else1;
-      lone = the-lone (c .before .before);
+      no-twin = the-no-twin (c .before .before);
       stored = λ e. omega (arith, c .if2 .left, c .before .count-of .ensures);
     }
 
@@ -39,7 +39,7 @@ returns : tie.Need-returns
 returns c r z st = c .refuse .ensures ∙ refused-17 r _ (sym (c .before .before .is-table .ensures) ∙ not-true _ (c .before .if1 .taken))
 
 twin-of-requires : tie.Need-twin-of-requires
-twin-of-requires c κs = (well-made-laid _ _ (the-table (c .before .before)), zeros-blank 512)
+twin-of-requires c κs = (well-made-in-bounds _ _ (the-table (c .before .before)), zeros-blank 512)
 
 returns-2 : tie.Need-returns-2
 returns-2 c r z st =
@@ -49,12 +49,12 @@ returns-2 c r z st =
 count-of-requires : tie.Need-count-of-requires
 count-of-requires c κs =
     let else1 = c .before .before .before .before .before in
-    well-made-laid _ _ (the-table else1)
+    well-made-in-bounds _ _ (the-table else1)
 
 returns-3 : tie.Need-returns-3
 returns-3 c r z st =
     let else1 = c .before .before .before .before .before .before .before in
-    passed-none r _ (the-table else1) (the-lone (c .before .before)) (omega (arith, c .if2 .taken, c .before .count-of .ensures))
+    passed-none r _ (the-table else1) (the-no-twin (c .before .before)) (omega (arith, c .if2 .taken, c .before .count-of .ensures))
 
 check-names-requires : tie.Need-check-names-requires
 check-names-requires c κs =

@@ -23,7 +23,7 @@ the-bare c r z st =
     let after-grade-leaves = c .before .before .before .before .before .before in
     c .evaluate .ensures r z st
     ∙ by-says _ _ (envOf _ oldest []) _
-    (λ i lt l e. after-grade-leaves .grade-leaves .ensures .1 (c .before .before .enum-told .given .1) i lt l e .bare) r 0 (omega arith) st
+    (λ i lt l e. after-grade-leaves .grade-leaves .ensures .1 (c .before .before .enum-told .given .1) i lt l e .unconfirmed) r 0 (omega arith) st
 
 the-archived : (c : tie.After-evaluate2) →
     (let s = c .before .before .before .before .before .before .before .before .before .before .before .before .before .before .args in

@@ -8,7 +8,7 @@ use borrow.Author.Needs.{needs}
 use lib.ListN.{length, length-set}
 use Rattle.image.specs.Decode.{cellAt}
 use Rattle.store_table.specs.Stores.{entriesIn}
-use Rattle.store_table.proofs.Laws.StoresLaws.{well-made-laid}
+use Rattle.store_table.proofs.Laws.StoresLaws.{well-made-in-bounds}
 use Rattle.store_table.proofs.Laws.LookupLaws.{found-none, found-at}
 use Rattle.image.proofs.Laws.CellLaws.{cell-what, name-inside}
 use Rattle.verdict.specs.Inner.Grades.{GradedUpTo}
@@ -37,7 +37,7 @@ name-of-requires c κs =
 find-requires : tie.Need-find-requires Inv-loop μ-loop
 find-requires c κs =
     let entry = c .before .before .before .before .before .before .before .before in
-    (well-made-laid _ _ (entry .pre .1 .1 .0 .table), entry .pre .1 .1 .1)
+    (well-made-in-bounds _ _ (entry .pre .1 .1 .0 .table), entry .pre .1 .1 .1)
 
 returns : tie.Need-returns Inv-loop μ-loop
 returns c =
@@ -54,7 +54,7 @@ returns c =
 mode-at-requires : tie.Need-mode-at-requires Inv-loop μ-loop
 mode-at-requires c κs =
     let entry = c .before .before .before .before .before .before .before .before .before .before .before .before in (
-      well-made-laid _ _ (entry .pre .1 .1 .0 .table),
+      well-made-in-bounds _ _ (entry .pre .1 .1 .0 .table),
       found-at _ _ (entry .pre .1 .1 .0 .table) (c .before .before .before .find .ensures) (c .before .k .given .1) .below,
     )
 
@@ -73,7 +73,7 @@ loop-again c =
       rw (v .8)
           (graded-next _ _ (l .grades) (v .7 .result) (l .inv .3) room
           (λ x e. rw (v .7 .ensures, v .6 .ensures (f .entry) (f .at))
-          (name-graded _ (entry .pre .1 .1 .0 .lone) _ _ _ x (cell-what _ _ _ (d .ensures) ∙ e) (f .entry) (v .0 .taken)
+          (name-graded _ (entry .pre .1 .1 .0 .no-twin) _ _ _ x (cell-what _ _ _ (d .ensures) ∙ e) (f .entry) (v .0 .taken)
           (v .1 .ensures) (f .here) (f .named)))),
     ))
     (λ v. (
@@ -82,7 +82,7 @@ loop-again c =
       none-next _ _ _ (l .inv .2) (other-known _ _ _ _ (d .ensures) (v .0 .left)),
       rw (v .2)
           (graded-next _ _ (l .grades) (v .1 .result) (l .inv .3) room
-          (λ x e. v .1 .ensures _ _ _ x (cell-what _ _ _ (d .ensures) ∙ e) (v .0 .left) (entry .pre .1 .1 .0 .lone))),
+          (λ x e. v .1 .ensures _ _ _ x (cell-what _ _ _ (d .ensures) ∙ e) (v .0 .left) (entry .pre .1 .1 .0 .no-twin))),
     ))
     (c .if1 .came)
 
