@@ -20,12 +20,25 @@ pub fn print_refusal(answer: u64) {
 }
 
 // A refusal, or a line for any other answer.
-pub fn print_answer(answer: u64, line: &[u8]) {
+fn print_answer(answer: u64, line: &[u8]) {
     if answer < REFUSED {
         io::write_all(STDOUT_FILENO, line);
     } else {
         print_refusal(answer);
     }
+}
+
+// A verdict: a refusal or a pass.
+pub fn print_verdict(answer: u64) {
+    print_answer(answer, b"pass\n")
+}
+
+// A decision: 1 is evict, 0 is keep.
+pub fn print_decision(answer: u64) {
+    if answer == 1 {
+        return print_answer(answer, b"evict\n");
+    }
+    print_answer(answer, b"keep\n")
 }
 
 // Bytes in hex, up to 32,768 of them.
@@ -56,4 +69,10 @@ pub fn print_bytes(bytes: &[u8]) {
     io::write_all(STDOUT_FILENO, b"ok ");
     print_hex(bytes);
     io::write_all(STDOUT_FILENO, b"\n");
+}
+
+// How many cases there are.
+pub fn print_count(cases: u64) {
+    io::print_decimal(STDOUT_FILENO, cases);
+    io::write_all(STDOUT_FILENO, b" cases\n");
 }

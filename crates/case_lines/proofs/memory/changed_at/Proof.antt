@@ -1,18 +1,18 @@
--- `case_lines::fields::blank_at` is safe and ends: what is left of the line falls.
+-- `case_lines::memory::changed_at` is safe and ends: what is left of the memory falls.
 use lib.ListN.{length}
 use Prim.Native.Nat.{_-_}
 use borrow.Author.Needs.{needs}
-use Rattle.case_lines.proofs.fields.blank_at.Statement.{statement}
-use Rattle.case_lines.proofs.fields.blank_at.Tie as tie
+use Rattle.case_lines.proofs.memory.changed_at.Statement.{statement}
+use Rattle.case_lines.proofs.memory.changed_at.Tie as tie
 
 abbrev Inv-loop : tie.InvT-loop
-Inv-loop line i₀ i = Unit {0}
+Inv-loop memory from i₀ i = Unit {0}
 
 abbrev μ-loop : tie.MeasureT-loop
-μ-loop line i₀ i = length line - i
+μ-loop memory from i₀ i = length memory - i
 
-pub blank-at-spec : {M : Type 1} → statement M
-blank-at-spec =
+pub changed-at-spec : {M : Type 1} → statement M
+changed-at-spec =
     tie.close
     (tie.spec
     Inv-loop
