@@ -1,6 +1,6 @@
 // A whole text parsed into three arrays: the tests of the text, the rule, and what is left after it.
 ghost use Rattle.nodes.specs.Inner.Parses.{arrays};
-ghost use Rattle.parse_text.specs.Inner.Parsing.{Ready, Ended, Finished};
+ghost use Rattle.parse_text.specs.Inner.Parsing.{ReadRoom, Ended, Finished};
 use nodes::ParseEnd;
 use nodes::refuse;
 use parser::parse_or;
@@ -20,7 +20,7 @@ fn parse_whole(
     names: &mut [u8],
     class: &[u8; 256],
 ) -> ParseEnd
-    requires { ⌜ Ready (now class) (now text) (arrays (now tags) (now args) (now names)) ⌝ }
+    requires { ⌜ ReadRoom (now class) (now text) (arrays (now tags) (now args) (now names)) ⌝ }
     ensures { λ r. ⌜ Ended (now (text .entry)) (arrays (now (tags .exit)) (now (args .exit)) (now (names .exit))) r ⌝ }
 {
     let whole = parse_or(text, 0, 0, tags, args, names, 0, 0, class);
@@ -43,7 +43,7 @@ pub fn parse_text(
     names: &mut [u8],
     class: &[u8; 256],
 ) -> ParseEnd
-    requires { ⌜ Ready (now class) (now text) (arrays (now tags) (now args) (now names)) ⌝ }
+    requires { ⌜ ReadRoom (now class) (now text) (arrays (now tags) (now args) (now names)) ⌝ }
     ensures { λ r. ⌜ Finished (now (text .entry)) (arrays (now (tags .exit)) (now (args .exit)) (now (names .exit))) r ⌝ }
 {
     let p = foreign_at(text, class);

@@ -13,21 +13,21 @@ use Rattle.print.specs.declared.Printing.{Printing}
 use Rattle.print.specs.declared.Printing.the-variants.{Printed, Refused}
 
 -- an answer, and the buffer as it is left
-pub record Outcome : Type 0 where
+pub record PrintOutcome : Type 0 where
   pub answer : Printing
   pub text : List ℕ
 
-abbrev pub outcome : Printing → List ℕ → Outcome
+abbrev pub outcome : Printing → List ℕ → PrintOutcome
 outcome r text = record { answer = r; text = text }
 
 -- "into a buffer (1 exactly if shorter than the text)"
-abbrev pub fitted : List ℕ → List ℕ → Outcome
+abbrev pub fitted : List ℕ → List ℕ → PrintOutcome
 fitted t text = cond (ltb (length text) (length t)) (outcome (Refused (refusal shortBuffer 0)) text) (outcome (Printed (length t)) (t ++ drop (length t) text))
 
 -- "From an image (16)"
-abbrev pub printRule : Option Rule → List ℕ → Outcome
+abbrev pub printRule : Option Rule → List ℕ → PrintOutcome
 printRule none text = outcome (Refused (refusal badImage 0)) text
 printRule (some r) text = fitted (textOf r) text
 
-unfoldable pub printInto : List ℕ → List ℕ → Outcome
+unfoldable pub printInto : List ℕ → List ℕ → PrintOutcome
 printInto image text = printRule (decode image) text

@@ -11,19 +11,19 @@ use Rattle.read.specs.declared.Reading.{Reading}
 use Rattle.read.specs.declared.Reading.the-variants.{Read as Written, Refused as Unread}
 
 -- an answer, and the buffer as it is left
-pub record Outcome : Type 0 where
+pub record ReadOutcome : Type 0 where
   pub answer : Reading
   pub image : List ℕ
 
-abbrev pub outcome : Reading → List ℕ → Outcome
+abbrev pub outcome : Reading → List ℕ → ReadOutcome
 outcome r image = record { answer = r; image = image }
 
 -- "A refusal returns its number and a place, and writes nothing. An accepted call that fills a buffer answers the length
 -- written and changes nothing beyond it."
-abbrev pub readingOf : Read → List ℕ → Outcome
+abbrev pub readingOf : Read → List ℕ → ReadOutcome
 readingOf (rule r) image = outcome (Written (length (encode r))) (encode r ++ drop (length (encode r)) image)
 readingOf (refused f) image = outcome (Unread f) image
 
 -- 1, "lent output too short": "Reading needs a buffer of 26,628 bytes"
-unfoldable pub readInto : List ℕ → List ℕ → Outcome
+unfoldable pub readInto : List ℕ → List ℕ → ReadOutcome
 readInto s image = cond (ltb (length image) 26_628) (outcome (Unread (refusal shortBuffer 0)) image) (readingOf (readOf s) image)

@@ -5,7 +5,7 @@ ghost use lib.ListN.{length};
 ghost use Rattle.classes.specs.Inner.ClassTable.{IsClassTable};
 ghost use Rattle.grammar.specs.Reading.{readOf};
 ghost use Rattle.nodes.specs.Inner.Parses.{arrays};
-ghost use Rattle.parse_text.specs.Inner.Parsing.{Ready};
+ghost use Rattle.parse_text.specs.Inner.Parsing.{ReadRoom};
 ghost use Rattle.read.specs.Outcome.{outcome, readingOf, readInto};
 use nodes::ParseEnd;
 use parse_text::parse_text;
@@ -32,7 +32,7 @@ fn read_by(
     names: &mut [u8],
     class: &[u8; 256],
 ) -> Reading
-    requires { ⌜ Ready (now class) (now text) (arrays (now tags) (now args) (now names)) × (4 + 13 * length (now text) ≤ length (now image)) ⌝ }
+    requires { ⌜ ReadRoom (now class) (now text) (arrays (now tags) (now args) (now names)) × (4 + 13 * length (now text) ≤ length (now image)) ⌝ }
     ensures { λ r. ⌜ outcome r (now (image .exit)) ≡ readingOf (readOf (now (text .entry))) (now (image .entry)) ⌝ }
 {
     match parse_text(text, tags, args, names, class) {

@@ -9,7 +9,7 @@ ghost use Rattle.grammar.specs.Reading.{readOf};
 ghost use Rattle.store_table.specs.Stores.{entriesIn, writeOnlyNames};
 ghost use Rattle.store_table.specs.Inner.Bounds.{TableInBounds};
 ghost use Rattle.page_text.specs.Report.{nodeName, ageLine, confirmedLines, detail, verdictText};
-ghost use Rattle.page_text.specs.Inner.Room.{Room, Ready};
+ghost use Rattle.page_text.specs.Inner.Room.{Room, VerdictRoom};
 use decimal::digits::append_digits;
 use details::append_node;
 use details::append_place;
@@ -80,7 +80,7 @@ fn append_detail(page: &mut [u8], at: usize, text: &[u8], stores: &[u8], f: Refu
 
 // A verdict on a text for these stores, and what it means.
 pub fn append_judged(page: &mut [u8], text: &[u8], stores: &[u8], v: Verdict) -> usize
-    requires { ⌜ Ready (now page) (now text) (now stores) v ⌝ }
+    requires { ⌜ VerdictRoom (now page) (now text) (now stores) v ⌝ }
     ensures { λ r. ⌜ WrittenAt (now (page .entry)) (now (page .exit)) 0 r (verdictText (now (text .entry)) (entriesIn (now (stores .entry))) v) ⌝ }
 {
     let line_end = append_verdict(page, 0, v);

@@ -21,7 +21,7 @@ pub record Room (page : List ℕ) (at : ℕ) (text stores : List ℕ) (f : Refus
   pub due : RefusalBounds text f
 
 -- the same for a verdict
-pub record Ready (page : List ℕ) (text stores : List ℕ) (v : Verdict) : Type 0 where
+pub record VerdictRoom (page : List ℕ) (text stores : List ℕ) (v : Verdict) : Type 0 where
   pub in-bounds : TableInBounds stores
   pub small : length stores ≤ 16_452
   pub room : 32_768 ≤ length page

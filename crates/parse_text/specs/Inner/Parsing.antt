@@ -16,7 +16,7 @@ use Rattle.nodes.specs.declared.ParseEnd.{ParseEnd}
 use Rattle.nodes.specs.declared.ParseEnd.the-variants.{Done, Refused}
 
 -- the table has no faults, and the arrays have room for a node and for a name byte for each byte of the text
-pub record Ready (class s : List ℕ) (b : Arrays) : Type 0 where
+pub record ReadRoom (class s : List ℕ) (b : Arrays) : Type 0 where
   pub table : IsClassTable class
   pub room : length s ≤ length (b .tags)
   pub few : length (b .tags) ≤ 2048

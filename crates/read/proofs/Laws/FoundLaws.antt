@@ -9,7 +9,7 @@ use Rattle.refusals.specs.declared.Refusal.{Refusal}
 use Rattle.rules.specs.Rule.{Rule}
 use Rattle.image.specs.Encode.{encode}
 use Rattle.grammar.specs.Reading.{Read, rule, refused, readOf}
-use Rattle.read.specs.Outcome.{Outcome, outcome, readingOf, readInto}
+use Rattle.read.specs.Outcome.{ReadOutcome, outcome, readingOf, readInto}
 use Rattle.read.proofs.Laws.BufferLaws.{reads}
 use Rattle.read.specs.declared.Reading.{Reading}
 use Rattle.read.specs.declared.Reading.the-variants.{Read as Written, Refused as Unread}
@@ -25,7 +25,7 @@ pub record Found (text : List ℕ) (len : ℕ) (image : List ℕ) : Type 0 where
 -- ---- what was answered is what the text reads as
 module _ (text buffer : List ℕ) (room : 26_628 ≤ length buffer) {a : Reading} {image : List ℕ} (e : outcome a image ≡ readInto text buffer) where
   answered : {x : Read} → readOf text ≡ x → a ≡ readingOf x buffer .answer
-  answered q = ap (λ (o : Outcome). o .answer) (e ∙ reads text buffer room q)
+  answered q = ap (λ (o : ReadOutcome). o .answer) (e ∙ reads text buffer room q)
 
   pub read-refused : {f : Refusal} → a ≡ Unread f → readOf text ≡ refused f
   read-refused {f} is = go (readOf text) refl
@@ -40,7 +40,7 @@ module _ (text buffer : List ℕ) (room : 26_628 ≤ length buffer) {a : Reading
       go : (x : Read) → readOf text ≡ x → Found text len image
       go (rule r) q =
           let long : len ≡ length (encode r) = cc (answered q) in
-          let left : image ≡ encode r ++ drop (length (encode r)) buffer = ap (λ (o : Outcome). o .image) (e ∙ reads text buffer room q) in
+          let left : image ≡ encode r ++ drop (length (encode r)) buffer = ap (λ (o : ReadOutcome). o .image) (e ∙ reads text buffer room q) in
           record {
             read = r;
             says = q;

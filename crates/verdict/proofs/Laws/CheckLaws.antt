@@ -18,7 +18,7 @@ use Rattle.image.proofs.Laws.FitLaws.{isSome-true, isSome-false}
 use Rattle.image.specs.Inner.EncodedAt.{EncodedAt}
 use Rattle.grammar.specs.Reading.{Read, rule, refused, readOf}
 use Rattle.grammar.proofs.Laws.FitsLaws.{read-decodes}
-use Rattle.read.specs.Outcome.{Outcome, outcome, readingOf}
+use Rattle.read.specs.Outcome.{ReadOutcome, outcome, readingOf}
 use Rattle.read.specs.declared.Reading.{Reading}
 use Rattle.read.specs.declared.Reading.the-variants.{Read as Written}
 use Rattle.store_table.specs.Stores.{Entry, isTable, countIn, entriesIn, writeOnlyNames, twinOf}
@@ -116,7 +116,7 @@ written-image text buffer {a} {n} {image} e is = go (readOf text) refl e
   where
     go : (x : Read) → readOf text ≡ x → outcome a image ≡ readingOf x buffer → (n ≤ length image) × (isSome (decode (take n image)) ≡ true)
     go (rule r) q o =
-        let long : n ≡ length (encode r) = cc (ap (λ (x : Outcome). x .answer) o) in
-        let left : image ≡ encode r ++ drop (length (encode r)) buffer = ap (λ (x : Outcome). x .image) o in
+        let long : n ≡ length (encode r) = cc (ap (λ (x : ReadOutcome). x .answer) o) in
+        let left : image ≡ encode r ++ drop (length (encode r)) buffer = ap (λ (x : ReadOutcome). x .image) o in
         (rw left (simp length-append (omega arith)), rw (long, left, take-append-seam, read-decodes text r q))
-    go (refused f) q o = let z : _≡_ {A = ℕ} 0 1 = cc (ap (λ (x : Outcome). x .answer) o) in absurd (omega arith)
+    go (refused f) q o = let z : _≡_ {A = ℕ} 0 1 = cc (ap (λ (x : ReadOutcome). x .answer) o) in absurd (omega arith)
