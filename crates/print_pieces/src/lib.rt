@@ -27,12 +27,14 @@ pub fn prepend_leaf(
     match kind {
         image::NAMED => prepend(text, end, name_of(image, n, arg)),
         image::OLDER_THAN => {
-            let closed = prepend(text, end, b")");
+            let closed = end - 1;
+            text[closed] = b')';
             let at = format_duration(text, closed, arg);
             prepend(text, at, b"older_than(")
         }
         image::READABLE => {
-            let closed = prepend(text, end, b")");
+            let closed = end - 1;
+            text[closed] = b')';
             let at = prepend_digits(text, closed, arg);
             prepend(text, at, b"readable(")
         }
@@ -61,17 +63,17 @@ fn prepend_after(kind: u32, last: bool, text: &mut [u8], end: usize) -> usize
     ensures { λ r. ⌜ WrittenAt (now (text .entry)) (now (text .exit)) r end (afterChildOf kind last) ⌝ }
 {
     if last {
-        match kind {
-            image::AT_LEAST => prepend(text, end, b")"),
-            _ => end,
+        if kind == image::AT_LEAST {
+            text[end - 1] = b')';
+            return end - 1;
         }
-    } else {
-        match kind {
-            image::AT_LEAST => prepend(text, end, b", "),
-            image::ALL => prepend(text, end, b" && "),
-            image::ANY => prepend(text, end, b" || "),
-            _ => end,
-        }
+        return end;
+    }
+    match kind {
+        image::AT_LEAST => prepend(text, end, b", "),
+        image::ALL => prepend(text, end, b" && "),
+        image::ANY => prepend(text, end, b" || "),
+        _ => end,
     }
 }
 
@@ -82,7 +84,8 @@ pub fn prepend_back(kind: u32, child: u32, last: bool, text: &mut [u8], end: usi
 {
     let at = prepend_after(kind, last, text, end);
     if is_bracketed(kind, child) {
-        return prepend(text, at, b")");
+        text[at - 1] = b')';
+        return at - 1;
     }
     at
 }
@@ -93,7 +96,8 @@ pub fn prepend_front(kind: u32, child: u32, text: &mut [u8], end: usize) -> usiz
     ensures { λ r. ⌜ WrittenAt (now (text .entry)) (now (text .exit)) r end (frontOf kind child) ⌝ }
 {
     if is_bracketed(kind, child) {
-        return prepend(text, end, b"(");
+        text[end - 1] = b'(';
+        return end - 1;
     }
     end
 }

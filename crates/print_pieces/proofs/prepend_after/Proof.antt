@@ -3,40 +3,37 @@ use native.Mathlib.Omega.{arith}
 use borrow.Author.Needs.{needs}
 use Rattle.print_text.specs.Print.{afterChild}
 use Rattle.print_text.specs.Inner.Pieces.{afterChildOf}
-use Rattle.slices.proofs.Laws.WrittenLaws.{written-at-none}
+use Rattle.slices.proofs.Laws.WrittenLaws.{written-at-none, written-at-byte}
 use Rattle.print_text.proofs.Laws.PiecesLaws.{after-child-none}
 use Rattle.print_pieces.proofs.prepend_after.Statement.{statement}
 use Rattle.print_pieces.proofs.prepend_after.Tie as tie
+
+-- there is room for the bracket
+sub-text : tie.Need-sub-text
+unfolding afterChildOf afterChild
+sub-text c = rw (c .before .if1 .taken, c .if2 .taken) at (c .before .before .before .pre .0)
 
 prepend-requires : tie.Need-prepend-requires
 unfolding afterChildOf afterChild
 prepend-requires c κs =
     let m = c .before .before in
-    (rw (m .before .if1 .taken, m .match .keys1) at (m .before .before .before .pre .0), search needs)
+    (omega (arith, rw (m .before .if1 .left, m .match .keys1) at (m .before .before .before .pre .0)), search needs)
 
 prepend-requires-2 : tie.Need-prepend-requires-2
 unfolding afterChildOf afterChild
 prepend-requires-2 c κs =
     let m = c .before .before in
-    (rw (m .before .if1 .left, m .match2 .keys1) at (m .before .before .before .pre .0), search needs)
+    (omega (arith, rw (m .before .if1 .left, m .match .keys2) at (m .before .before .before .pre .0)), search needs)
 
 prepend-requires-3 : tie.Need-prepend-requires-3
 unfolding afterChildOf afterChild
 prepend-requires-3 c κs =
     let m = c .before .before in
-    (rw (m .before .if1 .left, m .match2 .keys2) at (m .before .before .before .pre .0), search needs)
-
-prepend-requires-4 : tie.Need-prepend-requires-4
-unfolding afterChildOf afterChild
-prepend-requires-4 c κs =
-    let m = c .before .before in
-    (rw (m .before .if1 .left, m .match2 .keys3) at (m .before .before .before .pre .0), search needs)
+    (omega (arith, rw (m .before .if1 .left, m .match .keys3) at (m .before .before .before .pre .0)), search needs)
 
 returns : tie.Need-returns
 unfolding afterChildOf afterChild
-returns c =
-    let at-match = c .before .before .before .before .before in
-    rw (at-match .before .if1 .taken, at-match .match .keys1) (c .before .before .prepend .ensures)
+returns c = rw (c .before .if1 .taken, c .if2 .taken) (written-at-byte _ _ _ (sub-text c) (c .before .before .before .pre .1))
 
 returns-2 : tie.Need-returns-2
 returns-2 c = rw (after-child-none (c .before .before .before .args .kind) (λ e. omega arith) (λ h k. c .before .if1 .taken)) (written-at-none _ _)
@@ -44,20 +41,20 @@ returns-2 c = rw (after-child-none (c .before .before .before .args .kind) (λ e
 returns-3 : tie.Need-returns-3
 unfolding afterChildOf afterChild
 returns-3 c =
-    let at-match2 = c .before .before .before .before .before in
-    rw (at-match2 .before .if1 .left, at-match2 .match2 .keys1) (c .before .before .prepend2 .ensures)
+    let m = c .before .before .before .before .before in
+    rw (m .before .if1 .left, m .match .keys1) (c .before .before .prepend .ensures)
 
 returns-4 : tie.Need-returns-4
 unfolding afterChildOf afterChild
 returns-4 c =
-    let at-match2 = c .before .before .before .before .before in
-    rw (at-match2 .before .if1 .left, at-match2 .match2 .keys2) (c .before .before .prepend3 .ensures)
+    let m = c .before .before .before .before .before in
+    rw (m .before .if1 .left, m .match .keys2) (c .before .before .prepend2 .ensures)
 
 returns-5 : tie.Need-returns-5
 unfolding afterChildOf afterChild
 returns-5 c =
-    let at-match2 = c .before .before .before .before .before in
-    rw (at-match2 .before .if1 .left, at-match2 .match2 .keys3) (c .before .before .prepend4 .ensures)
+    let m = c .before .before .before .before .before in
+    rw (m .before .if1 .left, m .match .keys3) (c .before .before .prepend3 .ensures)
 
 returns-6 : tie.Need-returns-6
 returns-6 c =
@@ -68,17 +65,18 @@ pub prepend-after-spec : {M : Type 1} → statement M
 prepend-after-spec =
     tie.close
     (tie.spec
+    sub-text
+    (λ c. omega (arith, sub-text c))  -- slice-write-text
+    sub-text  -- sub-result
+    (λ c. search needs)  -- same-length
+    returns
+    returns-2
     (λ c. search needs)  -- slice-aggregate-prepend
     prepend-requires
     (λ c. search needs)  -- slice-aggregate-prepend-2
     prepend-requires-2
     (λ c. search needs)  -- slice-aggregate-prepend-3
     prepend-requires-3
-    (λ c. search needs)  -- slice-aggregate-prepend-4
-    prepend-requires-4
-    (λ c. search needs)  -- same-length
-    returns
-    returns-2
     (λ c. search needs)  -- same-length-2
     returns-3
     (λ c. search needs)  -- same-length-3

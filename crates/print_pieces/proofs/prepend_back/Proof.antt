@@ -5,7 +5,7 @@ use borrow.Author.Needs.{needs}
 use lib.ListN.{length-append}
 use Rattle.print_text.specs.Print.{bracket}
 use Rattle.print_text.specs.Inner.Pieces.{backOf}
-use Rattle.slices.proofs.Laws.WrittenLaws.{written-at-before}
+use Rattle.slices.proofs.Laws.WrittenLaws.{written-at-byte, written-at-before}
 use Rattle.print_pieces.proofs.prepend_back.Statement.{statement}
 use Rattle.print_pieces.proofs.prepend_back.Tie as tie
 
@@ -13,20 +13,20 @@ prepend-after-requires : tie.Need-prepend-after-requires
 unfolding backOf bracket
 prepend-after-requires c κs = (omega (arith, simp length-append at (c .before .before .pre .0)), search needs)
 
-prepend-requires : tie.Need-prepend-requires
+-- there is room for the bracket
+sub-text : tie.Need-sub-text
 unfolding backOf bracket
-prepend-requires c κs =
-    let i = c .before .before in
-    let entry = i .before .before .before .before .before .before .before in
-    (omega (arith, simp length-append at (rw (sym (i .before .is-bracketed .ensures) ∙ i .if1 .taken) at (entry .pre .0))), omega arith)
+sub-text c =
+    let entry = c .before .before .before .before .before .before .before in
+    omega (arith, simp length-append at (rw (sym (c .before .is-bracketed .ensures) ∙ c .if1 .taken) at (entry .pre .0)))
 
 returns : tie.Need-returns
 unfolding backOf bracket
 returns c =
-    let then1 = c .before .before .before .before .before in
-    let entry = then1 .before .before .before .before .before .before .before in
-    rw (sym (then1 .before .is-bracketed .ensures) ∙ then1 .if1 .taken)
-    (written-at-before (entry .pre .1) (then1 .before .before .before .before .prepend-after .ensures) (c .before .before .prepend .ensures))
+    let after = c .before .before .before .before in
+    let entry = after .before .before .before in
+    rw (sym (c .before .is-bracketed .ensures) ∙ c .if1 .taken)
+    (written-at-before (entry .pre .1) (after .prepend-after .ensures) (written-at-byte _ _ _ (sub-text c) (omega arith)))
 
 returns-2 : tie.Need-returns-2
 unfolding backOf bracket
@@ -38,8 +38,9 @@ prepend-back-spec =
     (tie.spec
     prepend-after-requires
     (λ c κs. search needs)  -- is-bracketed-requires
-    (λ c. search needs)  -- slice-aggregate-prepend
-    prepend-requires
+    sub-text
+    (λ c. omega (arith, sub-text c))  -- slice-write-text
+    sub-text  -- sub-result
     (λ c. search needs)  -- same-length
     returns
     (λ c. search needs)  -- same-length-2
