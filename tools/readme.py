@@ -1,9 +1,9 @@
 #!/usr/bin/env python3
-"""Runs what README.md quotes, and says where the output differs.
+"""Runs what README.md and the pages under docs/ quote, and says where the output differs.
 
 usage: python3 tools/readme.py
 
-Runs each command line `$ ./judge ..` and compares what it prints with the lines quoted below it. Writes the Rust and the C program
+Runs each command line `$ ./judge ..` and compares what it prints with the lines quoted below it. Writes README's Rust and C program
 into target/example, runs the commands that README gives to build and run them, and compares what each prints with the block
 after it. Needs the Rattle kit, rustc and cc on the PATH. Prints each output that differs, then `N outputs, M different`; the
 exit status is 1 if one differs, or if no command or no program was found.
@@ -17,6 +17,7 @@ import sys
 ROOT = pathlib.Path(__file__).resolve().parent.parent
 EXAMPLE = ROOT / 'target' / 'example'
 README = (ROOT / 'README.md').read_text()
+PAGES = [README, *(page.read_text() for page in sorted((ROOT / 'docs').glob('*.md')))]
 
 
 def run(commands):
@@ -25,11 +26,12 @@ def run(commands):
 
 
 def judged():
-    """Each `$ ./judge ..` of README, and the lines quoted below it."""
-    for block in re.findall(r'(?:^    .*\n)+', README, re.M):
-        lines = [line[4:] for line in block.splitlines()]
-        if lines[0].startswith('$ ./judge '):
-            yield lines[0][2:], '\n'.join(lines[1:]) + '\n'
+    """Each `$ ./judge ..` of the pages, and the lines quoted below it."""
+    for page in PAGES:
+        for block in re.findall(r'(?:^    .*\n)+', page, re.M):
+            lines = [line[4:] for line in block.splitlines()]
+            if lines[0].startswith('$ ./judge '):
+                yield lines[0][2:], '\n'.join(lines[1:]) + '\n'
 
 
 def programs():
