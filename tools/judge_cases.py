@@ -1,9 +1,9 @@
 #!/usr/bin/env python3
-"""Runs ./judge as people do, and says where its output or its exit status is another than expected.
+"""Runs ./judge and the programs as people do, and says where output or exit status is another than expected.
 
 usage: python3 tools/judge_cases.py [ROOT]
 
-ROOT is the repository whose judge is run, else this one; its program is built first where it is not. Each case is a shell command, the
+ROOT is the repository whose judge is run, else this one; its programs are built first where they are not. Each case is a shell command, the
 exit status, what standard output begins with, and a part of standard error. No case may take more than 20 seconds. Prints each
 case that differs, then `N cases, M different`; the exit status is 1 if one differs.
 """
@@ -70,6 +70,13 @@ CASES = [
     (f'./judge nas {STORES} 2>&-', 0, PASS, ''),
     (f'./judge vault {STORES} <&- 2>&-', 1, 'no 22 0\n', ''),
     (f'(sleep 0.2; ./judge nas {STORES}; echo $? >&2) | true', 0, '', '3'),
+    # The programs themselves, whose exit status is always 0.
+    ('printf nas | target/bin/rulejudge nas:read-write >/dev/full', 0, '', 'rulejudge: standard output: No space left'),
+    ('printf nas | target/bin/rulejudge nas:read-write >&-', 0, '', 'rulejudge: standard output: Bad file'),
+    ('target/bin/rulejudge nas:read-write <.', 0, '', 'rulejudge: standard input: Is a directory'),
+    ('printf nas | target/bin/ruleread >/dev/full', 0, '', 'ruleread: standard output: No space left'),
+    ('printf nas | target/bin/ruleread >&-', 0, '', 'ruleread: standard output: Bad file'),
+    ('target/bin/ruleread <&-', 0, '', 'ruleread: standard input: Bad file'),
     # From anywhere.
     (f'cd / && "$OLDPWD/judge" nas {STORES}', 0, PASS, ''),
     (f'cd crates && ../judge nas {STORES}', 0, PASS, ''),
@@ -99,6 +106,7 @@ def run(command):
 
 def main():
     subprocess.run([ROOT / 'judge', 'nas', 'nas:read-write'], stdin=subprocess.DEVNULL, stdout=subprocess.DEVNULL)
+    subprocess.run(['rt', 'check', 'ruleread'], cwd=ROOT, stdout=subprocess.DEVNULL)
     different = 0
     for command, status, begins, said in CASES:
         got, out, err = run(command)

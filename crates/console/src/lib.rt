@@ -1,9 +1,10 @@
-// Standard input and the arguments of the programs.
+// Standard input, the arguments and standard output of the programs.
 ghost use Prim.Native.Nat.{_≤_, _+_};
 ghost use lib.ListN.{length};
 ghost use Rattle.console.specs.Inner.Input.{sizeOf};
 use libc::ENAMETOOLONG;
 use libc::STDIN_FILENO;
+use libc::STDOUT_FILENO;
 
 // One byte more than a text may have, which is enough to detect a long one.
 pub const READ_BYTES: usize = 2049;
@@ -79,4 +80,11 @@ pub fn collect(args: &mut [u8]) -> usize
         i += 1;
     }
     at
+}
+
+// Writes all of an answer to standard output; where that fails, a line on standard error says so.
+pub fn write_out(answer: &[u8], what: &[u8]) {
+    if !io::write_all(STDOUT_FILENO, answer) {
+        os::fail(what);
+    }
 }

@@ -5,7 +5,7 @@ use console::Input;
 use console::READ_BYTES;
 use console::collect;
 use console::read_text;
-use libc::STDOUT_FILENO;
+use console::write_out;
 use page::PAGE_BYTES;
 
 fn main() {
@@ -18,5 +18,5 @@ fn main() {
     let end = collect(&mut args);
     let mut page = [0u8; PAGE_BYTES];
     let written = page::report(&text[..size], &args[..end], &mut page);
-    io::write_all(STDOUT_FILENO, &page[..written]);
+    write_out(&page[..written], b"rulejudge: standard output");
 }

@@ -2,7 +2,7 @@
 use console::Input;
 use console::READ_BYTES;
 use console::read_text;
-use libc::STDOUT_FILENO;
+use console::write_out;
 
 fn main() {
     let mut text = [0u8; READ_BYTES];
@@ -12,5 +12,5 @@ fn main() {
     };
     let mut line = [0u8; 64];
     let end = read_line::reading_line(&mut line, &text[..size]);
-    io::write_all(STDOUT_FILENO, &line[..end]);
+    write_out(&line[..end], b"ruleread: standard output");
 }

@@ -25,8 +25,8 @@ slice-aggregate-report-2 c = sym (length-take-le _ _ (omega (arith, c .before .b
 array-share-prefix-page : tie.Need-array-share-prefix-page
 array-share-prefix-page c = put-within (c .before .report .ensures)
 
-slice-aggregate-write-all : tie.Need-slice-aggregate-write-all
-slice-aggregate-write-all c = put-counts (c .before .before .report .ensures)
+slice-aggregate-write-out : tie.Need-slice-aggregate-write-out
+slice-aggregate-write-out c = put-counts (c .before .before .report .ensures)
 
 pub main-spec : {M : Type 1} → statement M
 main-spec =
@@ -48,6 +48,7 @@ main-spec =
     (λ c. search needs)  -- slice-aggregate-report-3
     (λ c κs. search needs)  -- report-requires
     array-share-prefix-page
-    slice-aggregate-write-all
-    (λ c κs. search needs)  -- write-all-requires
+    slice-aggregate-write-out
+    (λ c. search needs)  -- slice-aggregate-write-out-2
+    (λ c κs. search needs)  -- write-out-requires
     (λ c. search needs))  -- returns-2

@@ -21,8 +21,8 @@ slice-aggregate-reading-line-2 c =
 array-share-prefix-line : tie.Need-array-share-prefix-line
 array-share-prefix-line c = put-within (c .before .reading-line .ensures)
 
-slice-aggregate-write-all : tie.Need-slice-aggregate-write-all
-slice-aggregate-write-all c = put-counts (c .before .before .reading-line .ensures)
+slice-aggregate-write-out : tie.Need-slice-aggregate-write-out
+slice-aggregate-write-out c = put-counts (c .before .before .reading-line .ensures)
 
 pub main-spec : {M : Type 1} → statement M
 main-spec =
@@ -40,6 +40,7 @@ main-spec =
     slice-aggregate-reading-line-2
     (λ c κs. search needs)  -- reading-line-requires
     array-share-prefix-line
-    slice-aggregate-write-all
-    (λ c κs. search needs)  -- write-all-requires
+    slice-aggregate-write-out
+    (λ c. search needs)  -- slice-aggregate-write-out-2
+    (λ c κs. search needs)  -- write-out-requires
     (λ c. search needs))  -- returns-2
