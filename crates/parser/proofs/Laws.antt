@@ -1,3 +1,4 @@
 pub mod ArgumentLaws
+pub mod MeasureLaws
 pub mod OperandLaws
 pub mod PrimaryLaws

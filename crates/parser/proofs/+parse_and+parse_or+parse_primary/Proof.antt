@@ -1,5 +1,5 @@
--- The proof of the cycle of calls {parse_and, parse_or, parse_primary}: the measure is three times the tokens left, and the
--- function's level. Assumes nothing.
+-- The proof of the cycle of calls {parse_and, parse_or, parse_primary}: the measure is the tokens left, paired with the function's
+-- level. Assumes nothing.
 use mathlib.Core.Path.{refl, sym, ap, _∙_}
 use Prim.Native.Nat.{ℕ, _+_, _*_, _<_}
 use native.Mathlib.Omega.{arith}
@@ -16,6 +16,7 @@ use Rattle.grammar.specs.Inner.Starts.{joinOf, startNext, left}
 use Rattle.grammar.proofs.Laws.StartLaws.{head-is, head-ahead}
 use Rattle.nodes.specs.Inner.Parses.{arrays}
 use Rattle.nodes.proofs.Laws.ParseLaws.{and-level, or-level}
+use Rattle.parser.proofs.Laws.MeasureLaws.{paired}
 use Rattle.parser.proofs.Laws.OperandLaws.{lengths, Chaining, chain-refused, chain-begin, chain-stop, operand-asks, operand-follows, right-before, right-room, right-fewer, right-fails, chain-turn}
 use Rattle.parser.proofs.Laws.PrimaryLaws.{primary-refused, name-room, name-read, test-room, test-read, group-before, group-refused, group-done}
 use Rattle.parser.proofs.Laws.ArgumentLaws.{argumentsLeft, Arguments, list-first, list-room, list-end, argument-before, arguments-fewer, list-next}
@@ -41,13 +42,13 @@ use Rattle.parser.proofs.+parse_and+parse_or+parse_primary.{statement}
 use Rattle.parser.proofs.+parse_and+parse_or+parse_primary.Tie.{close}
 
 abbrev μ-parse-and : Measures 5 parse-and-kinds.ps ℕ
-μ-parse-and κs a = 3 * left (a .0 .now) (a .1 .0) + 2
+μ-parse-and κs a = paired (left (a .0 .now) (a .1 .0)) 2
 
 abbrev μ-parse-or : Measures 5 parse-or-kinds.ps ℕ
-μ-parse-or κs a = 3 * left (a .0 .now) (a .1 .0) + 3
+μ-parse-or κs a = paired (left (a .0 .now) (a .1 .0)) 3
 
 abbrev μ-parse-primary : Measures 5 parse-primary-kinds.ps ℕ
-μ-parse-primary κs a = 3 * left (a .0 .now) (a .1 .0) + 1
+μ-parse-primary κs a = paired (left (a .0 .now) (a .1 .0)) 1
 
 abbrev parse-and-at : ℕ → In 5 parse-and-kinds.ps
 parse-and-at t = and 5 parse-and-kinds.ps (is 5 parse-and-kinds.ps μ-parse-and t) parse-and.Pre
