@@ -7,16 +7,19 @@ use Rattle.duration_text.proofs.part_size.Statement.{statement}
 use Rattle.duration_text.proofs.part_size.Tie as tie
 
 returns : tie.Need-returns
-returns c = rw (part-zero _ _ (c .if1 .taken))
-
-digit-count-requires : tie.Need-digit-count-requires
-digit-count-requires c κs = search needs
+returns c unit e = rw (part-zero unit _ (c .if1 .taken))
 
 add-result : tie.Need-add-result
-add-result c = omega (arith, digits-short (c .before .before .before .args .k))
+add-result c = omega (arith, digits-short (c .before .before .args .k))
 
 returns-2 : tie.Need-returns-2
-returns-2 c = omega (arith, part-length (c .before .before .before .args .unit .now) _ (c .before .if1 .left))
+returns-2 c unit e = omega (arith, part-length unit _ (c .before .if1 .left))
 
 pub part-size-spec : {M : Type 1} → statement M
-part-size-spec = tie.close (tie.spec returns digit-count-requires add-result returns-2)
+part-size-spec =
+    tie.close
+    (tie.spec
+    returns
+    (λ c κs. search needs)  -- digit-count-requires
+    add-result
+    returns-2)

@@ -1,7 +1,9 @@
--- `duration_text::prepend_part` meets its contract: the unit is written, and the digits before it. Assumes nothing.
+-- `duration_text::prepend_part` meets its contract: the unit is stored, and the digits are written before it. Assumes nothing.
+use mathlib.Core.List.{[], _∷_}
+use Prim.Native.Nat.{_-_}
 use native.Mathlib.Omega.{arith}
-use borrow.Author.Needs.{needs}
-use Rattle.slices.proofs.Laws.WrittenLaws.{written-at-none, written-at-before}
+use lib.ListN.{length-set}
+use Rattle.slices.proofs.Laws.WrittenLaws.{written-at-none, written-at-byte, written-at-before}
 use Rattle.duration_text.proofs.Laws.DurationTextLaws.{part-zero, part-nonzero, part-length}
 use Rattle.duration_text.proofs.prepend_part.Statement.{statement}
 use Rattle.duration_text.proofs.prepend_part.Tie as tie
@@ -9,23 +11,36 @@ use Rattle.duration_text.proofs.prepend_part.Tie as tie
 returns : tie.Need-returns
 returns c = rw (part-zero _ _ (c .if1 .taken)) (written-at-none _ _)
 
-prepend-requires : tie.Need-prepend-requires
-prepend-requires c κs = let e = c .before in omega (arith, part-length (e .before .before .before .args .unit .now) _ (e .if1 .left))
+-- there is room for the unit
+sub-text : tie.Need-sub-text
+sub-text c = omega (arith, part-length (c .before .before .args .unit ∷ []) _ (c .if1 .left))
 
 prepend-digits-requires : tie.Need-prepend-digits-requires
 prepend-digits-requires c κs =
-    let else1 = c .before .before .before .before .before in
-    omega (arith, part-length (else1 .before .before .before .args .unit .now) _ (else1 .if1 .left))
+    let entry = c .before .before .before in
+    let same = length-set (entry .args .text .now) (entry .args .end - 1) (entry .args .unit) in
+    (omega (arith, part-length (entry .args .unit ∷ []) _ (c .before .if1 .left)), omega arith)
 
 same-length : tie.Need-same-length
-same-length c = search needs
+same-length c =
+    let entry = c .before .before .before .before .before .before in
+    omega (arith, length-set (entry .args .text .now) (entry .args .end - 1) (entry .args .unit))
 
 returns-2 : tie.Need-returns-2
 returns-2 c =
-    let after-prepend = c .before .before .before .before .before .before in
-    let else1 = after-prepend .before .before in
-    rw (part-nonzero _ _ (else1 .if1 .left))
-    (written-at-before (else1 .before .before .before .pre .1) (after-prepend .prepend .ensures) (c .before .before .prepend-digits .ensures))
+    let digits = c .before .before in
+    let else1 = digits .before .before in
+    let p = else1 .before .before .pre .1 in
+    rw (part-nonzero _ _ (else1 .if1 .left)) (written-at-before p (written-at-byte _ _ _ (sub-text else1) p) (digits .prepend-digits .ensures))
 
 pub prepend-part-spec : {M : Type 1} → statement M
-prepend-part-spec = tie.close (tie.spec returns prepend-requires prepend-digits-requires same-length returns-2)
+prepend-part-spec =
+    tie.close
+    (tie.spec
+    returns
+    sub-text
+    (λ c. omega (arith, sub-text c))  -- slice-write-text
+    (λ c. sub-text (c .before))  -- sub-prepend-digits
+    prepend-digits-requires
+    same-length
+    returns-2)
