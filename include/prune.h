@@ -3,7 +3,18 @@
  * Each call answers number * 2^32 + value. The number is 0 where the call is accepted, and the value is then as said below;
  * otherwise the number is the refusal's (1 to 22) and the value its place. A refusal writes nothing. An accepted call that fills a
  * buffer changes nothing beyond the length that it answers. Lengths are in bytes; a pointer may be anything valid where its
- * length is 0, but not null. The buffers of one call must not overlap.
+ * length is 0, but not null. What a call asks of its caller is what C asks: that the memory is there, and that a buffer that is
+ * written to overlaps no other. Whatever the bytes are, the call ends with an answer. Nothing is kept between calls and nothing is
+ * allocated, so any number of threads may call at the same time.
+ *
+ * A table of stores is these bytes, in this order, and nothing else:
+ *   count        2 bytes, low byte first: how many stores, at most 64
+ *   total        2 bytes, low byte first: how many bytes their names have together
+ *   modes        a byte for each store: PRUNE_READ_WRITE, PRUNE_READ_ONLY or PRUNE_WRITE_ONLY
+ *   lengths      a byte for each store: the length of its name
+ *   names        the names, one after the other, of ASCII bytes
+ * So nas (read-write) and vault (write-only) are 2 0, 8 0, 0 2, 3 5, nasvault. A confirmed list has the same layout, with all modes 0: that
+ * nas has confirmed is 1 0, 3 0, 0, 3, nas.
  */
 #ifndef PRUNE_H
 #define PRUNE_H
@@ -17,6 +28,39 @@ extern "C" {
 
 /* A buffer of this length holds the image of every text that reads. */
 #define PRUNE_IMAGE_BYTES 26628
+
+/* The number and the value of an answer. */
+#define PRUNE_NUMBER(answer) ((uint32_t)((answer) >> 32))
+#define PRUNE_VALUE(answer) ((uint32_t)(answer))
+
+/* The modes of a store. */
+#define PRUNE_READ_WRITE 0
+#define PRUNE_READ_ONLY 1
+#define PRUNE_WRITE_ONLY 2
+
+/* The refusals; docs/REFUSALS.md has each with an example. */
+#define PRUNE_SHORT_BUFFER 1
+#define PRUNE_LONG_TEXT 2
+#define PRUNE_FOREIGN_BYTE 3
+#define PRUNE_HALF_SIGN 4
+#define PRUNE_OPEN_QUOTE 5
+#define PRUNE_STRAY_CHARACTER 6
+#define PRUNE_NO_EXPRESSION 7
+#define PRUNE_BRACKET_EXPECTED 8
+#define PRUNE_TRAILING_TOKEN 9
+#define PRUNE_UNKNOWN_FUNCTION 10
+#define PRUNE_MISSING_ARGUMENT 11
+#define PRUNE_BAD_COUNT 12
+#define PRUNE_BAD_DURATION 13
+#define PRUNE_EMPTY_LIST 14
+#define PRUNE_TOO_DEEP 15
+#define PRUNE_BAD_IMAGE 16
+#define PRUNE_BAD_STORE_TABLE 17
+#define PRUNE_TWIN_NAME 18
+#define PRUNE_BAD_CONFIRMED_LIST 19
+#define PRUNE_UNKNOWN_STORE 20
+#define PRUNE_UNCONFIRMED 21
+#define PRUNE_ARCHIVE_ONLY 22
 
 /* Reads a rule's text into an image. Value: the image's length. Refusals: 1 to 15.
  * A duration is made of parts in w, d, h, m, s and ms, in this order, each at most once: 1 to 9 digits, then the unit. Blanks may
