@@ -11,7 +11,7 @@ use decimal::digits::prepend_digits;
 // How many bytes a part prints as, with a unit of that many: none where it is zero.
 fn part_size(k: u64, size: usize) -> usize
     requires { ⌜ size ≤ 2 ⌝ }
-    ensures { λ r. ⌜ ((unit : List ℕ) → length unit ≡ size → r ≡ length (partText k unit)) ⌝ }
+    ensures { λ r. ⌜ (r ≤ 22) × ((unit : List ℕ) → length unit ≡ size → r ≡ length (partText k unit)) ⌝ }
 {
     if k == 0 {
         return 0;
@@ -26,15 +26,14 @@ pub fn duration_size(ms: u64) -> usize
     if ms == 0 {
         return 2;
     }
-    let days = part_size(ms / 86_400_000, 1);
+    let mut size = part_size(ms / 86_400_000, 1);
     if ms % 86_400_000 == 0 {
-        return days;
+        return size;
     }
-    let hours = part_size(ms / 3_600_000 % 24, 1);
-    let minutes = part_size(ms / 60_000 % 60, 1);
-    let seconds = part_size(ms / 1_000 % 60, 1);
-    let millis = part_size(ms % 1_000, 2);
-    days + hours + minutes + seconds + millis
+    size += part_size(ms / 3_600_000 % 24, 1);
+    size += part_size(ms / 60_000 % 60, 1);
+    size += part_size(ms / 1_000 % 60, 1);
+    size + part_size(ms % 1_000, 2)
 }
 
 // Writes a part's text, with a unit of one byte, so that it ends at a position, and answers where it begins; nothing where it is zero.
@@ -45,8 +44,9 @@ fn prepend_part(text: &mut [u8], end: usize, k: u64, unit: u8) -> usize
     if k == 0 {
         return end;
     }
-    text[end - 1] = unit;
-    prepend_digits(text, end - 1, k)
+    let at = end - 1;
+    text[at] = unit;
+    prepend_digits(text, at, k)
 }
 
 // The same for the milliseconds, whose unit has two bytes.
@@ -57,8 +57,9 @@ fn prepend_millis(text: &mut [u8], end: usize, k: u64) -> usize
     if k == 0 {
         return end;
     }
-    text[end - 1] = b's';
-    prepend_part(text, end - 1, k, b'm')
+    let at = end - 1;
+    text[at] = b's';
+    prepend_part(text, at, k, b'm')
 }
 
 // Writes a duration's text so that it ends at a position, its last part first, and answers where it begins.

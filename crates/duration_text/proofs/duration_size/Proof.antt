@@ -3,7 +3,7 @@ use mathlib.Core.Path.{refl}
 use native.Mathlib.Omega.{arith}
 use borrow.Author.Needs.{needs}
 use Rattle.slices.specs.Text.{bytes}
-use Rattle.duration_text.proofs.Laws.DurationTextLaws.{duration-zero, duration-length, duration-days, duration-short}
+use Rattle.duration_text.proofs.Laws.DurationTextLaws.{duration-zero, duration-length, duration-days}
 use Rattle.duration_text.proofs.duration_size.Statement.{statement}
 use Rattle.duration_text.proofs.duration_size.Tie as tie
 
@@ -13,7 +13,7 @@ returns c = rw (duration-zero _ (c .if1 .taken))
 returns-2 : tie.Need-returns-2
 returns-2 c =
     let else1 = c .before .before in
-    rw (duration-days (else1 .before .args .ms) (else1 .if1 .left) (c .if2 .taken)) (c .before .part-size .ensures (bytes "d") refl)
+    rw (duration-days (else1 .before .args .ms) (else1 .if1 .left) (c .if2 .taken)) (c .before .part-size .ensures .1 (bytes "d") refl)
 
 returns-3 : tie.Need-returns-3
 returns-3 c =
@@ -23,18 +23,12 @@ returns-3 c =
     omega (
       arith,
       duration-length (else1 .before .args .ms) (else1 .if1 .left),
-      days .part-size .ensures (bytes "d") refl,
-      hours .part-size2 .ensures (bytes "h") refl,
-      c .before .before .part-size3 .ensures (bytes "m") refl,
-      c .before .part-size4 .ensures (bytes "s") refl,
-      c .part-size5 .ensures (bytes "ms") refl,
+      days .part-size .ensures .1 (bytes "d") refl,
+      hours .part-size2 .ensures .1 (bytes "h") refl,
+      c .before .before .part-size3 .ensures .1 (bytes "m") refl,
+      c .before .part-size4 .ensures .1 (bytes "s") refl,
+      c .part-size5 .ensures .1 (bytes "ms") refl,
     )
-
--- a duration's text is short, so that the sum fits
-add-result-4 : tie.Need-add-result-4
-add-result-4 c =
-    let ms = c .before .before .before .before .before .before .before .args .ms in
-    omega (arith, returns-3 c, duration-short ms)
 
 pub duration-size-spec : {M : Type 1} → statement M
 duration-size-spec =
@@ -44,11 +38,11 @@ duration-size-spec =
     (λ c κs. search needs)  -- part-size-requires
     returns-2
     (λ c κs. search needs)  -- part-size-requires-2
+    (λ c. omega arith)  -- add-size
     (λ c κs. search needs)  -- part-size-requires-3
+    (λ c. omega arith)  -- add-size-2
     (λ c κs. search needs)  -- part-size-requires-4
+    (λ c. omega arith)  -- add-size-3
     (λ c κs. search needs)  -- part-size-requires-5
-    (λ c. omega (arith, add-result-4 c))  -- add-result
-    (λ c. omega (arith, add-result-4 c))  -- add-result-2
-    (λ c. omega (arith, add-result-4 c))  -- add-result-3
-    add-result-4
+    (λ c. omega arith)  -- add-result
     returns-3)

@@ -7,13 +7,13 @@ use Rattle.duration_text.proofs.part_size.Statement.{statement}
 use Rattle.duration_text.proofs.part_size.Tie as tie
 
 returns : tie.Need-returns
-returns c unit e = rw (part-zero unit _ (c .if1 .taken))
+returns c = (omega arith, λ unit e. rw (part-zero unit _ (c .if1 .taken)))
 
 add-result : tie.Need-add-result
 add-result c = omega (arith, digits-short (c .before .before .args .k))
 
 returns-2 : tie.Need-returns-2
-returns-2 c unit e = omega (arith, part-length unit _ (c .before .if1 .left))
+returns-2 c = (omega (arith, digits-short (c .before .before .args .k)), λ unit e. omega (arith, part-length unit _ (c .before .if1 .left)))
 
 pub part-size-spec : {M : Type 1} → statement M
 part-size-spec =

@@ -12,8 +12,8 @@ returns : tie.Need-returns
 returns c = rw (part-zero _ _ (c .if1 .taken)) (written-at-none _ _)
 
 -- there is room for the s
-sub-text : tie.Need-sub-text
-sub-text c = omega (arith, part-length (bytes "ms") _ (c .if1 .left))
+sub-at : tie.Need-sub-at
+sub-at c = omega (arith, part-length (bytes "ms") _ (c .if1 .left))
 
 prepend-part-requires : tie.Need-prepend-part-requires
 prepend-part-requires c κs =
@@ -32,16 +32,15 @@ returns-2 c =
     let part = c .before .before in
     let else1 = part .before .before in
     let p = else1 .before .before .pre .1 in
-    rw (millis-split _ (else1 .if1 .left)) (written-at-before p (written-at-byte _ _ _ (sub-text else1) p) (part .prepend-part .ensures))
+    rw (millis-split _ (else1 .if1 .left)) (written-at-before p (written-at-byte _ _ _ (sub-at else1) p) (part .prepend-part .ensures))
 
 pub prepend-millis-spec : {M : Type 1} → statement M
 prepend-millis-spec =
     tie.close
     (tie.spec
     returns
-    sub-text
-    (λ c. omega (arith, sub-text c))  -- slice-write-text
-    (λ c. sub-text (c .before))  -- sub-prepend-part
+    sub-at
+    (λ c. omega (arith, sub-at c))  -- slice-write-text
     prepend-part-requires
     same-length
     returns-2)

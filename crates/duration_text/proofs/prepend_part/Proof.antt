@@ -12,8 +12,8 @@ returns : tie.Need-returns
 returns c = rw (part-zero _ _ (c .if1 .taken)) (written-at-none _ _)
 
 -- there is room for the unit
-sub-text : tie.Need-sub-text
-sub-text c = omega (arith, part-length (c .before .before .args .unit ∷ []) _ (c .if1 .left))
+sub-at : tie.Need-sub-at
+sub-at c = omega (arith, part-length (c .before .before .args .unit ∷ []) _ (c .if1 .left))
 
 prepend-digits-requires : tie.Need-prepend-digits-requires
 prepend-digits-requires c κs =
@@ -31,16 +31,15 @@ returns-2 c =
     let digits = c .before .before in
     let else1 = digits .before .before in
     let p = else1 .before .before .pre .1 in
-    rw (part-nonzero _ _ (else1 .if1 .left)) (written-at-before p (written-at-byte _ _ _ (sub-text else1) p) (digits .prepend-digits .ensures))
+    rw (part-nonzero _ _ (else1 .if1 .left)) (written-at-before p (written-at-byte _ _ _ (sub-at else1) p) (digits .prepend-digits .ensures))
 
 pub prepend-part-spec : {M : Type 1} → statement M
 prepend-part-spec =
     tie.close
     (tie.spec
     returns
-    sub-text
-    (λ c. omega (arith, sub-text c))  -- slice-write-text
-    (λ c. sub-text (c .before))  -- sub-prepend-digits
+    sub-at
+    (λ c. omega (arith, sub-at c))  -- slice-write-text
     prepend-digits-requires
     same-length
     returns-2)
