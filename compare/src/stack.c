@@ -85,9 +85,9 @@ static void make_deep(void) {
 static void make_large(void) {
     size_t at = 0;
     for (int i = 0; i < 64; i++) memcpy(large_text + at, "all(", 4), at += 4;
-    while (at + 6 + 64 <= sizeof large_text) memcpy(large_text + at, "nas,  ", 6), at += 6;
+    while (at + 4 + 3 + 64 <= sizeof large_text) memcpy(large_text + at, "nas,", 4), at += 4;
     memcpy(large_text + at, "nas", 3), at += 3;
-    for (int i = 0; i < 64; i++) large_text[at++] = ')';
+    memset(large_text + at, ')', 64), at += 64;
     memset(large_text + at, ' ', sizeof large_text - at);
 }
 
