@@ -60,15 +60,19 @@ fn print_hex(bytes: &[u8]) {
     }
 }
 
-// The bytes that a call wrote: `ok` and the bytes in hex, or a dash where there are none.
-pub fn print_bytes(bytes: &[u8]) {
-    if bytes.len() == 0 {
-        io::write_all(STDOUT_FILENO, b"ok -\n");
-        return;
-    }
+// Bytes, of which there are some: `ok` and the bytes in hex.
+fn print_some(bytes: &[u8]) {
     io::write_all(STDOUT_FILENO, b"ok ");
     print_hex(bytes);
     io::write_all(STDOUT_FILENO, b"\n");
+}
+
+// The bytes that a call wrote: `ok` and the bytes in hex, or a dash where there are none.
+pub fn print_bytes(bytes: &[u8]) {
+    if bytes.len() > 0 {
+        return print_some(bytes);
+    }
+    io::write_all(STDOUT_FILENO, b"ok -\n");
 }
 
 // How many cases there are.

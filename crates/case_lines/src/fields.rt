@@ -30,12 +30,12 @@ pub fn rest(line: &[u8]) -> &[u8] {
     &line[..0]
 }
 
-// How many bytes a field has, if this many of its digits are in hex; a dash has none. Where it is not in the format, the most.
+// How many bytes a field has that is this many digits in hex; a dash has none. Where it is not in the format, the most.
 fn size_of(field: &[u8], digits: usize, most: usize) -> usize {
     if ascii::eq(field, b"-") {
         return 0;
     }
-    if digits == 0 || digits % 2 == 1 || digits < field.len() {
+    if digits == 0 || digits % 2 == 1 {
         return most;
     }
     digits / 2

@@ -11,14 +11,14 @@ fn value_of(b: u8) -> u8 {
     16
 }
 
-// Writes the bytes that hex digits make to the front of a buffer, two digits to a byte, as long as they are such digits and there
-// is room, and answers how many digits were taken.
+// Writes the bytes that hex digits make to the front of a buffer, two digits to a byte, as far as there is room, and
+// answers how many digits were taken: 0 where one is no such digit.
 pub fn decode(digits: &[u8], out: &mut [u8]) -> usize {
     let mut i = 0;
     while i < digits.len() && i / 2 < out.len() {
         let value = value_of(digits[i]);
         if value > 15 {
-            return i;
+            return 0;
         }
         out[i / 2] = out[i / 2] % 16 * 16 + value;
         i += 1;

@@ -6,10 +6,10 @@ use Rattle.case_lines.proofs.input.next_case.Statement.{statement}
 use Rattle.case_lines.proofs.input.next_case.Tie as tie
 
 abbrev Inv-loop : tie.InvT-loop
-Inv-loop line₀ chunk₀ now₀ turns₀ line chunk now turns = (length line ≡ length line₀) × (length chunk ≡ length chunk₀)
+Inv-loop line₀ chunk₀ next₀ filled₀ size₀ turns₀ b₀ line chunk next filled size turns b = (length line ≡ length line₀) × (length chunk ≡ length chunk₀)
 
 abbrev μ-loop : tie.MeasureT-loop
-μ-loop line₀ chunk₀ now₀ turns₀ line chunk now turns = turns
+μ-loop line₀ chunk₀ next₀ filled₀ size₀ turns₀ b₀ line chunk next filled size turns b = turns
 
 pub next-case-spec : {M : Type 1} → statement M
 next-case-spec =
@@ -17,9 +17,12 @@ next-case-spec =
     (tie.spec
     Inv-loop
     μ-loop
-    (λ c κs. search needs)  -- next-line-requires
     (λ c. search needs)  -- loop-holds
-    (λ c κs. search needs)  -- next-line-requires-2
+    (λ c κs. search needs)  -- goes-on-requires
+    (λ c κs. search needs)  -- refill-requires
+    (λ c κs. search needs)  -- byte-at-requires
+    (λ c κs. search needs)  -- index-after-requires
+    (λ c κs. search needs)  -- put-requires
     (λ c. search needs)  -- sub-turns
     (λ c. search needs)  -- loop-less
     (λ c. search needs)  -- loop-again
@@ -28,7 +31,4 @@ next-case-spec =
     (λ c. search needs)  -- returns
     (λ c. search needs)  -- same-length-3
     (λ c. search needs)  -- same-length-4
-    (λ c. search needs)  -- returns-2
-    (λ c. search needs)  -- same-length-5
-    (λ c. search needs)  -- same-length-6
-    (λ c. search needs))  -- returns-3
+    (λ c. search needs))  -- returns-2
