@@ -15,7 +15,8 @@ were changed, so that a draft with the old ones can follow. A line of a list is 
 
 The lines are done in their order, so a later line speaks of what the earlier ones have left. A name is changed where it is
 declared and where it is imported from there: another thing of the same name keeps it. In a proof it is also changed where the
-prover names a fact after a function that is called. Edits follow, and so do docs/*.md and the readme where a name is in
+prover names a fact after a function that is called. A clause without arguments that is indented is taken for the label of a
+field and keeps its name, so look for the old one afterwards. Edits follow, and so do docs/*.md and the readme where a name is in
 backticks; there another thing of the same name is changed too, so look those pages over. Prints what each line has changed.
 """
 import pathlib
