@@ -79,7 +79,7 @@ def declared():
         for m in IMPORT.finditer(text):
             if not re.match(r'Rattle\.(?:%s)\.' % '|'.join(CRATES), m[1]):
                 kit |= {re.split(r'\s+as\s+', n.strip())[0] for n in m[2].split(',')}
-        if path.name in ('Proof.antt', 'Answers.antt', 'Invariants.antt'):
+        if 'proofs' in path.parts and path.name in ('Proof.antt', 'Answers.antt', 'Invariants.antt'):
             continue
         for m in SIGNATURE.finditer(text):
             own |= set(m[1].split())

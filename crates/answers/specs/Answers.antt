@@ -12,29 +12,29 @@ use Rattle.print.specs.declared.Printing.{Printing}
 use Rattle.print.specs.declared.Printing.TheVariants.{Printed, Refused as Unprinted}
 
 -- a number and a value as one; the values of the calls are below 2^32, so that both are read back (AnswersLaws)
-abbrev pub packedAnswer : ℕ → ℕ → ℕ
-packedAnswer number value = number * 2 ^ 32 + value % 2 ^ 32
+abbrev pub packed_answer : ℕ → ℕ → ℕ
+packed_answer number value = number * 2 ^ 32 + value % 2 ^ 32
 
-abbrev pub ofRefusal : Refusal → ℕ
-ofRefusal f = packedAnswer f.number f.place
+abbrev pub of_refusal : Refusal → ℕ
+of_refusal f = packed_answer f.number f.place
 
 -- "the length written"
-abbrev pub ofReading : Reading → ℕ
-ofReading (Read size) = packedAnswer 0 size
-ofReading (Unread f) = ofRefusal f
+abbrev pub of_reading : Reading → ℕ
+of_reading (Read size) = packed_answer 0 size
+of_reading (Unread f) = of_refusal f
 
 -- "1 evict, 0 keep"
-abbrev pub ofDecision : Decision → ℕ
-ofDecision Evict = packedAnswer 0 1
-ofDecision Keep = packedAnswer 0 0
-ofDecision (Undecided f) = ofRefusal f
+abbrev pub of_decision : Decision → ℕ
+of_decision Evict = packed_answer 0 1
+of_decision Keep = packed_answer 0 0
+of_decision (Undecided f) = of_refusal f
 
 -- "0 for pass"
-abbrev pub ofVerdict : Verdict → ℕ
-ofVerdict Pass = packedAnswer 0 0
-ofVerdict (NotPassed f) = ofRefusal f
+abbrev pub of_verdict : Verdict → ℕ
+of_verdict Pass = packed_answer 0 0
+of_verdict (NotPassed f) = of_refusal f
 
 -- "the length written"
-abbrev pub ofPrinting : Printing → ℕ
-ofPrinting (Printed size) = packedAnswer 0 size
-ofPrinting (Unprinted f) = ofRefusal f
+abbrev pub of_printing : Printing → ℕ
+of_printing (Printed size) = packed_answer 0 size
+of_printing (Unprinted f) = of_refusal f

@@ -1,4 +1,6 @@
 // The table of the stores that arguments give.
+#![tactic(auto)]
+
 ghost use Rattle.std.specs.Prelude.{◌+◌, ◌≤◌, ◌<◌, length};
 ghost use Rattle.store_args.specs.Arguments.{given_by, arguments_in, stores_in};
 ghost use Rattle.store_args.specs.Inner.Filling.{arrays, OneOf, FilledBy, MadeOf};

@@ -1,4 +1,6 @@
 // Letters and digits of ASCII, and two byte strings compared, with or without regard to case.
+#![tactic(auto)]
+
 ghost use Rattle.std.specs.Prelude.{◌≡◌};
 ghost use Rattle.ascii.specs.Letters.{is_digit, lower, folded_if, equal_by, equal, equal_ignoring_case};
 

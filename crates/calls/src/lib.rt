@@ -1,4 +1,6 @@
 // Calls: what follows a function's opening bracket, up to its closing bracket or its list.
+#![tactic(auto)]
+
 ghost use Rattle.std.specs.Prelude.{◌≤◌, length};
 ghost use Rattle.classes.specs.Inner.ClassTable.{IsClassTable};
 ghost use Rattle.grammar.specs.Grammar.{older_than_start, readable_start, at_least_start, call_start};

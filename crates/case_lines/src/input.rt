@@ -3,7 +3,7 @@ use libc::STDIN_FILENO;
 
 // Where the reading is: the next byte of the chunk, or 0 where the chunk is used up; how many bytes the chunk has; and how many the
 // line has that was read.
-#[derive(Drop)]
+#[derive(Clone, Copy)]
 pub struct Place {
     pub next: usize,
     pub filled: usize,

@@ -1,4 +1,6 @@
 // The class of a byte, from a constant table.
+#![tactic(auto)]
+
 ghost use Rattle.std.specs.Prelude.{◌≡◌};
 ghost use Rattle.slices.specs.Text.{run_end};
 ghost use Rattle.classes.specs.Class.{class_of, of_class};

@@ -1,4 +1,6 @@
 // Which stores of a table a list confirms, and how many of them are readable.
+#![tactic(auto)]
+
 ghost use Rattle.std.specs.Prelude.{◌≡◌, List, ◌<◌, ℕ, length, set};
 ghost use Rattle.store_table.specs.Stores.{entries_in, all_names, twin_of, ready_count};
 ghost use Rattle.store_table.specs.Inner.Bounds.{TableInBounds};

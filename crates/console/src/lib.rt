@@ -1,4 +1,6 @@
 // Standard input, the arguments and standard output of the programs.
+#![tactic(auto)]
+
 ghost use Rattle.std.specs.Prelude.{◌≤◌, ◌+◌, length};
 ghost use Rattle.console.specs.Inner.Input.{size_of};
 
@@ -14,7 +16,7 @@ const ARG_BYTES: usize = 267;
 pub const ARGS_BYTES: usize = 17_420;
 
 // What was read: how many bytes, or that a read failed.
-#[derive(Drop)]
+#[derive(Clone, Copy)]
 pub enum Input {
     Bytes(usize),
     Failed,

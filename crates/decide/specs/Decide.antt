@@ -6,7 +6,7 @@ use Rattle.rules.specs.Rule.{Rule}
 use Rattle.image.specs.Decode.{decode}
 use Rattle.store_table.specs.Stores.{entries_in, all_names}
 use Rattle.evaluate.specs.Evict.{env_of, evict}
-use Rattle.decide.specs.Tests.{firstRefusal, table_test, twin_test, list_test}
+use Rattle.decide.specs.Tests.{first_refusal, table_test, twin_test, list_test}
 use Rattle.decide.specs.declared.Decision.{Decision}
 use Rattle.decide.specs.declared.Decision.TheVariants.{Evict, Keep, Refused}
 
@@ -22,7 +22,7 @@ list_names l = all_names (entries_in l)
 abbrev pub decide_rule : Option Rule → List ℕ → ℕ → List ℕ → Decision
 decide_rule none stores age list = Refused (refusal bad_image 0)
 decide_rule (some r) stores age list =
-    firstRefusal Refused (table_test stores ∷ twin_test stores ∷ list_test list ∷ [])
+    first_refusal Refused (table_test stores ∷ twin_test stores ∷ list_test list ∷ [])
     (decision_of (evict r (env_of (entries_in stores) age (list_names list))))
 
 unfoldable pub decide_of : List ℕ → List ℕ → ℕ → List ℕ → Decision

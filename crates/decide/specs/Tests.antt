@@ -8,10 +8,10 @@ use Rattle.store_table.specs.declared.Twin.{Twin}
 use Rattle.store_table.specs.declared.Twin.TheVariants.{No, At}
 
 -- the first refusal of these tests, from left to right, or else the answer
-abbrev pub firstRefusal {ℓ} : {A : Type ℓ} → (Refusal → A) → List (Option Refusal) → A → A
-firstRefusal refuse [] answer = answer
-firstRefusal refuse (none ∷ tests) answer = firstRefusal refuse tests answer
-firstRefusal refuse (some f ∷ tests) answer = refuse f
+abbrev pub first_refusal {ℓ} : {A : Type ℓ} → (Refusal → A) → List (Option Refusal) → A → A
+first_refusal refuse [] answer = answer
+first_refusal refuse (none ∷ tests) answer = first_refusal refuse tests answer
+first_refusal refuse (some f ∷ tests) answer = refuse f
 
 -- 17, "bad store table"
 abbrev pub table_test : List ℕ → Option Refusal

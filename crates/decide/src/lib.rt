@@ -1,4 +1,6 @@
 // Deciding: whether the rule that an image holds says evict.
+#![tactic(auto)]
+
 ghost use Rattle.std.specs.Prelude.{◌≡◌, ◌≤◌};
 ghost use Rattle.rules.specs.Rule.{Rule};
 ghost use Rattle.rules.specs.Rule.{size as size_of};
@@ -19,7 +21,7 @@ use store_index::twin_of;
 use store_table::{Twin, is_list, is_table};
 
 // What deciding answers.
-#[derive(Drop)]
+#[derive(Clone, Copy)]
 pub enum Decision {
     Evict,
     Keep,

@@ -1,4 +1,6 @@
 // Numbers in decimal: a count read, and digits written.
+#![tactic(auto)]
+
 pub mod count;
 pub mod digits;
 
@@ -7,7 +9,7 @@ ghost use Rattle.ascii.specs.Letters.{is_digit};
 ghost use Rattle.decimal.specs.Decimal.{digit_value};
 
 // What a word is read as: a number, or none.
-#[derive(Drop)]
+#[derive(Clone, Copy)]
 pub enum Parsed {
     Value(u64),
     Invalid,

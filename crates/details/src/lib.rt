@@ -1,4 +1,6 @@
 // What a refusal is about: a place in the text, a node's name, the write-only stores.
+#![tactic(auto)]
+
 ghost use Rattle.std.specs.Prelude.{min, ◌+◌, ◌≤◌, length};
 ghost use Rattle.slices.specs.Text.{WrittenAt};
 ghost use Rattle.grammar.specs.Reading.{read_of};

@@ -1,4 +1,6 @@
 // A duration printed.
+#![tactic(auto)]
+
 ghost use Rattle.std.specs.Prelude.{List, [], ◌∷◌, ◌≡◌, ℕ, ◌≤◌, length};
 ghost use Rattle.slices.specs.Text.{bytes, WrittenAt};
 ghost use Rattle.duration_text.specs.DurationText.{part_text, duration_text};

@@ -67,7 +67,7 @@ fn decimal_of(word: &[u8], from: usize, to: usize) -> u64
 }
 
 // What is at a position of a duration: a part of this unit, in milliseconds, and where the next one is expected; or none.
-#[derive(Drop)]
+#[derive(Clone, Copy)]
 pub enum Part {
     Of(u64, usize),
     Not,

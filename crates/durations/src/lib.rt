@@ -1,3 +1,5 @@
 // Durations: the units, and a duration read.
+#![tactic(auto)]
+
 pub mod duration;
 pub mod unit;

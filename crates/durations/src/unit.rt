@@ -4,7 +4,7 @@ ghost use Rattle.durations.specs.Duration.{units};
 ghost use Rattle.durations.specs.Inner.Units.{unit_at, IsUnit};
 
 // A unit of time: its name, of which the first `len` bytes count, and its milliseconds.
-#[derive(Drop)]
+#[derive(Clone, Copy)]
 pub struct TimeUnit {
     pub name: [u8; 2],
     pub len: usize,

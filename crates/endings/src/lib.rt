@@ -1,4 +1,6 @@
 // What follows an expression that was read: an operand after a chain's sign, a group's closing bracket, a list's arguments.
+#![tactic(auto)]
+
 ghost use Rattle.std.specs.Prelude.{◌≡◌, ◌-◌, ◌+◌, ◌≤◌, ◌<◌, eqb, length, get_or};
 ghost use Rattle.classes.specs.Class.{ampersand, bar};
 ghost use Rattle.classes.specs.Inner.ClassTable.{IsClassTable};
@@ -26,7 +28,7 @@ fn nodes_before_chain(tags: &[u32], n: usize, kind: u32) -> usize
 }
 
 // Where a chain's next operand is read, and after how many nodes; or there is none.
-#[derive(Drop)]
+#[derive(Clone, Copy)]
 pub enum Operand {
     At { next: usize, n: usize },
     None,
@@ -69,7 +71,7 @@ pub fn close_group(text: &[u8], at: usize, n: usize, m: usize, class: &[u8; 256]
 }
 
 // Where a list's next argument is read, after how many nodes and name bytes; or the list's end: all were read, or a refusal.
-#[derive(Drop)]
+#[derive(Clone, Copy)]
 pub enum Argument {
     At { next: usize, n: usize, m: usize },
     End(ParseEnd),

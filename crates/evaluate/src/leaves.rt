@@ -11,7 +11,7 @@ use confirmed::is_confirmed;
 use image::{is_leaf, name_of, node_at};
 
 // What a decision looks at besides the list: the age, and how many readable stores are confirmed.
-#[derive(Drop)]
+#[derive(Clone, Copy)]
 pub struct EnvNumbers {
     pub age: u64,
     pub ready: u64,

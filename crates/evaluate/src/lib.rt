@@ -1,4 +1,6 @@
 // What a rule says from its leaves' answers.
+#![tactic(auto)]
+
 pub mod leaves;
 
 ghost use Rattle.std.specs.Prelude.{◌≡◌, List, Bool, ℕ, ◌≤◌, length};

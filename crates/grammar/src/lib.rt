@@ -1,4 +1,6 @@
 // The grammar: what a text reads as, the types that a primary begins as, and the function that a word names.
+#![tactic(auto)]
+
 ghost use Rattle.std.specs.Prelude.{◌≡◌};
 ghost use Rattle.refusals.specs.Refusals.{refusal};
 ghost use Rattle.grammar.specs.Grammar.{function_of};
@@ -7,13 +9,13 @@ use ascii::eq_ignore_ascii_case;
 use refusals::Refusal;
 
 // A leaf that is no name, with its duration in milliseconds or its count.
-#[derive(Drop)]
+#[derive(Clone, Copy)]
 pub enum Test {
     OlderThan(u64),
     Readable(u64),
 }
 
-#[derive(Drop)]
+#[derive(Clone, Copy)]
 pub enum Combinator {
     AtLeast(u64),
     All,
@@ -22,7 +24,7 @@ pub enum Combinator {
 
 // A store's name, as its part of the text; another leaf; a bracket; a function with a list, and the place of its word; each
 // with the position where the text continues. Or a refusal.
-#[derive(Drop)]
+#[derive(Clone, Copy)]
 pub enum PrimaryStart {
     Name {
         start: usize,
@@ -52,7 +54,7 @@ pub fn refuse(number: u8, place: usize) -> PrimaryStart
 }
 
 // The function that a word names, in any case of letters.
-#[derive(Drop)]
+#[derive(Clone, Copy)]
 pub enum Function {
     OlderThan,
     Readable,

@@ -1,4 +1,6 @@
 // The rule image: the kinds of nodes, an image written into a buffer, and a node and a name read from one.
+#![tactic(auto)]
+
 ghost use Rattle.std.specs.Prelude.{◌≡◌, ◌+◌, ◌*◌, ◌^◌, ◌≤◌, ◌<◌, length, take};
 ghost use Rattle.slices.specs.Text.{written};
 ghost use Rattle.little_endian.specs.Bytes.{packed};
@@ -149,7 +151,7 @@ pub fn names_start(n: usize) -> usize
 }
 
 // A node as it lies in the image.
-#[derive(Drop)]
+#[derive(Clone, Copy)]
 pub struct Node {
     pub kind: u32,
     pub size: usize,

@@ -1,4 +1,6 @@
 // Whether bytes are a rule's image: forward passes over the nodes, no recursion.
+#![tactic(auto)]
+
 ghost use Rattle.std.specs.Prelude.{◌≡◌, ◌-◌, ◌≤◌, suc, ◌<◌, length};
 ghost use Rattle.std.proofs.Math.Option.{some};
 ghost use Rattle.rules.specs.Rule.{Rules};

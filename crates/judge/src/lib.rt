@@ -1,4 +1,6 @@
 // Judging a text: read, then check.
+#![tactic(auto)]
+
 ghost use Rattle.std.specs.Prelude.{◌≡◌, ◌+◌, ◌*◌, ◌≤◌, length};
 ghost use Rattle.verdict.specs.Check.{judge_of};
 ghost use Rattle.verdict.specs.Guarantee.{Judged};

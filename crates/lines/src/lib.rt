@@ -1,4 +1,6 @@
 // Lines for a person: numbers, meanings, and a text with a mark under a place.
+#![tactic(auto)]
+
 ghost use Rattle.std.specs.Prelude.{◌≡◌, ◌++◌, ◌+◌, ◌≤◌, ◌*◌, length, replicate};
 ghost use Rattle.slices.specs.Text.{bytes, WrittenAt};
 ghost use Rattle.lines.specs.Lines.{line_end, numbers_line, trimmed, meaning_line, shown, shown_all, marked_line};

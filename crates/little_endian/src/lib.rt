@@ -1,4 +1,6 @@
 // Numbers of two, four and eight bytes, the lowest first, read and written.
+#![tactic(auto)]
+
 ghost use Rattle.std.specs.Prelude.{◌≡◌, ◌<◌, ◌+◌, ◌^◌, ◌≤◌, length};
 ghost use Rattle.slices.specs.Text.{written};
 ghost use Rattle.little_endian.specs.Bytes.{le_at, le_bytes};

@@ -1,4 +1,6 @@
 // A name looked up in a table: by the table's index, or by a look at each entry.
+#![tactic(auto)]
+
 pub mod hash;
 
 ghost use Rattle.std.specs.Prelude.{◌≡◌, ◌≤◌, ◌<◌};

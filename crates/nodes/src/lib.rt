@@ -1,4 +1,6 @@
 // Nodes and name bytes as the parser writes them into its arrays.
+#![tactic(auto)]
+
 ghost use Rattle.std.specs.Prelude.{◌≡◌, List, ◌++◌, ℕ, ◌+◌, ◌-◌, ◌≤◌, ◌<◌, length, set, take};
 ghost use Rattle.slices.specs.Text.{part};
 ghost use Rattle.refusals.specs.Refusals.{refusal};
@@ -12,7 +14,7 @@ use image::{name_arg, tag_of};
 use refusals::Refusal;
 
 // Where the text continues, and how many nodes and name bytes have been written; or a refusal.
-#[derive(Drop)]
+#[derive(Clone, Copy)]
 pub enum ParseEnd {
     Done { next: usize, n: usize, m: usize },
     Refused(Refusal),

@@ -1,4 +1,6 @@
 // The page that `rulejudge` prints of a rule's text and of stores given as arguments.
+#![tactic(auto)]
+
 ghost use Rattle.slices.specs.Text.{WrittenAt};
 ghost use Rattle.page_text.specs.Page.{page_of};
 

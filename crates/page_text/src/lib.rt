@@ -1,4 +1,6 @@
 // What the page of `rulejudge` says: definitions, laws, and the lines that need no choice of a place, a node or a store.
+#![tactic(auto)]
+
 ghost use Rattle.std.specs.Prelude.{◌+◌, ◌≤◌, length};
 ghost use Rattle.slices.specs.Text.{WrittenAt};
 ghost use Rattle.store_table.specs.Stores.{entries_in};

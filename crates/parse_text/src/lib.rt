@@ -1,4 +1,6 @@
 // A whole text parsed into three arrays: the tests of the text, the rule, and what is left after it.
+#![tactic(auto)]
+
 ghost use Rattle.nodes.specs.Inner.Parses.{arrays};
 ghost use Rattle.parse_text.specs.Inner.Parsing.{ReadRoom, Ended, Finished};
 

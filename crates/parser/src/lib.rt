@@ -1,5 +1,7 @@
 // The parser: or calls and, and calls primary, primary calls or again. Each appends to three lent arrays: a tag and an argument
 // for each node, and the bytes of the names.
+#![tactic(auto)]
+
 ghost use Rattle.grammar.specs.Grammar.{or_in, and_in, primary_in};
 ghost use Rattle.nodes.specs.Inner.Parses.{arrays, Before, ParsedBy};
 

@@ -1,4 +1,6 @@
 // How a primary begins.
+#![tactic(auto)]
+
 ghost use Rattle.std.specs.Prelude.{◌≤◌, ◌+◌, ◌-◌, length};
 ghost use Rattle.slices.specs.Text.{part};
 ghost use Rattle.classes.specs.Inner.ClassTable.{IsClassTable};

@@ -1,4 +1,6 @@
 // Printing: the text of the rule that an image holds, into a lent buffer.
+#![tactic(auto)]
+
 pub mod put;
 
 ghost use Rattle.std.specs.Prelude.{◌≡◌};
@@ -11,7 +13,7 @@ use print_text::size::text_size;
 use refusals::Refusal;
 
 // What printing answers: the length of the text written, or a refusal.
-#[derive(Drop)]
+#[derive(Clone, Copy)]
 pub enum Printing {
     Printed(usize),
     Refused(Refusal),

@@ -1,4 +1,6 @@
 // The pieces of a rule's text, written from the end.
+#![tactic(auto)]
+
 ghost use Rattle.std.specs.Prelude.{◌≡◌, ◌≤◌, length};
 ghost use Rattle.slices.specs.Text.{WrittenAt};
 ghost use Rattle.image.specs.Kinds.{named_kind};

@@ -1,17 +1,19 @@
 // The C interface: five calls on bytes and numbers, each answered by one number.
+#![tactic(auto)]
+
 ghost use Rattle.std.specs.Prelude.{◌≡◌};
 ghost use Rattle.read.specs.Outcome.{read_into};
 ghost use Rattle.decide.specs.Decide.{decide_of};
 ghost use Rattle.verdict.specs.Check.{check_of, judge_of};
 ghost use Rattle.print.specs.Printed.{print_into};
-ghost use Rattle.answers.specs.Answers.{ofReading, ofDecision, ofVerdict, ofPrinting};
+ghost use Rattle.answers.specs.Answers.{of_reading, of_decision, of_verdict, of_printing};
 
 use answers::{of_decision, of_printing, of_reading, of_verdict};
 
 // Reads a text into a rule image; the value is the image's length.
 #[unsafe(no_mangle)]
 pub extern "C" fn prune_read(text: &[u8], image: &mut [u8]) -> u64
-    ensures { (result ≡ ofReading (read_into text.now image.old).answer) × (image.new ≡ (read_into text.now image.old).image) }
+    ensures { (result ≡ of_reading (read_into text.now image.old).answer) × (image.new ≡ (read_into text.now image.old).image) }
 {
     of_reading(read::read(text, image))
 }
@@ -19,7 +21,7 @@ pub extern "C" fn prune_read(text: &[u8], image: &mut [u8]) -> u64
 // Decides on an image; the value is 1 for evict, 0 for keep.
 #[unsafe(no_mangle)]
 pub extern "C" fn prune_decide(image: &[u8], stores: &[u8], age: u64, list: &[u8]) -> u64
-    ensures { result ≡ ofDecision (decide_of image.now stores.now age list.now) }
+    ensures { result ≡ of_decision (decide_of image.now stores.now age list.now) }
 {
     of_decision(decide::decide(image, stores, age, list))
 }
@@ -27,7 +29,7 @@ pub extern "C" fn prune_decide(image: &[u8], stores: &[u8], age: u64, list: &[u8
 // Checks the rule of an image; the value is 0 for a pass.
 #[unsafe(no_mangle)]
 pub extern "C" fn prune_check(image: &[u8], stores: &[u8]) -> u64
-    ensures { result ≡ ofVerdict (check_of image.now stores.now) }
+    ensures { result ≡ of_verdict (check_of image.now stores.now) }
 {
     of_verdict(safety::validate_safety(image, stores))
 }
@@ -35,7 +37,7 @@ pub extern "C" fn prune_check(image: &[u8], stores: &[u8]) -> u64
 // Judges a text; the value is 0 for a pass.
 #[unsafe(no_mangle)]
 pub extern "C" fn prune_judge(text: &[u8], stores: &[u8]) -> u64
-    ensures { result ≡ ofVerdict (judge_of text.now stores.now) }
+    ensures { result ≡ of_verdict (judge_of text.now stores.now) }
 {
     of_verdict(judge::judge(text, stores))
 }
@@ -43,7 +45,7 @@ pub extern "C" fn prune_judge(text: &[u8], stores: &[u8]) -> u64
 // Prints the rule of an image; the value is the text's length.
 #[unsafe(no_mangle)]
 pub extern "C" fn prune_print(image: &[u8], text: &mut [u8]) -> u64
-    ensures { (result ≡ ofPrinting (print_into image.now text.old).answer) × (text.new ≡ (print_into image.now text.old).text) }
+    ensures { (result ≡ of_printing (print_into image.now text.old).answer) × (text.new ≡ (print_into image.now text.old).text) }
 {
     of_printing(print::print(image, text))
 }

@@ -1,4 +1,6 @@
 // Reading: from a text to a rule image, in arrays by the text's size.
+#![tactic(auto)]
+
 ghost use Rattle.std.specs.Prelude.{◌≡◌, ◌+◌, ◌*◌, ◌≤◌, length};
 ghost use Rattle.classes.specs.Inner.ClassTable.{IsClassTable};
 ghost use Rattle.grammar.specs.Reading.{read_of};
@@ -17,7 +19,7 @@ pub const IMAGE_BYTES: usize = 26_628;
 pub const TEXT_BYTES: usize = 2048;
 
 // What reading answers: the length of the image written, or a refusal.
-#[derive(Drop)]
+#[derive(Clone, Copy)]
 pub enum Reading {
     Read(usize),
     Refused(Refusal),

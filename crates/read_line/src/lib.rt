@@ -1,4 +1,6 @@
 // The line that `ruleread` prints.
+#![tactic(auto)]
+
 ghost use Rattle.std.specs.Prelude.{◌+◌, ◌≤◌, length};
 ghost use Rattle.slices.specs.Text.{WrittenAt};
 ghost use Rattle.grammar.specs.Reading.{read_of};

@@ -1,9 +1,11 @@
 // The refusals: a number, a word and a meaning for each cause.
+#![tactic(auto)]
+
 ghost use Rattle.std.specs.Prelude.{◌≡◌};
 ghost use Rattle.refusals.specs.Refusals.{row_of};
 
 // A refusal: its number, and the place that its cause gives it.
-#[derive(Drop)]
+#[derive(Clone, Copy)]
 pub struct Refusal {
     pub number: u8,
     pub place: usize,
@@ -76,7 +78,7 @@ pub const UNCONFIRMED: u8 = 21;
 pub const ARCHIVE_ONLY: u8 = 22;
 
 // A row of the table: a number, its word and what that means to a person, both filled up with blanks.
-#[derive(Drop)]
+#[derive(Clone, Copy)]
 pub struct Row {
     pub number: u8,
     pub word: [u8; 18],

@@ -1,6 +1,8 @@
 // Runs a list of cases from standard input, one on a line, and prints the answer of each on a line, and how many there are.
 // Lines that are empty or begin with `#` are passed over. A case is the name of a call and what it is given: `lent` has the
 // calls `read` and `print`, and `calls` the calls `decide`, `check` and `judge`.
+#![tactic(auto)]
+
 mod calls;
 mod lent;
 

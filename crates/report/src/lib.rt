@@ -1,4 +1,6 @@
 // What a person is told of a verdict on a text.
+#![tactic(auto)]
+
 ghost use Rattle.std.specs.Prelude.{length};
 ghost use Rattle.slices.specs.Text.{WrittenAt};
 ghost use Rattle.store_table.specs.Stores.{entries_in};

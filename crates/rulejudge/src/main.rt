@@ -1,5 +1,7 @@
 // Judges a rule from standard input for the stores that are given as arguments, each `name:mode`: `pass`, or `no NUMBER PLACE`, and
 // what that means.
+#![tactic(auto)]
+
 use console::{ARGS_BYTES, Input, READ_BYTES, collect, read_text, write_out};
 use page::PAGE_BYTES;
 

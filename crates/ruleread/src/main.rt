@@ -1,4 +1,6 @@
 // Reads a rule from standard input and prints one line: `ok n m`, or `no number place`.
+#![tactic(auto)]
+
 use console::{Input, READ_BYTES, read_text, write_out};
 
 fn main() {

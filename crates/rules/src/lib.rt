@@ -1,1 +1,2 @@
 // Rules as trees: definitions, no code.
+#![tactic(auto)]

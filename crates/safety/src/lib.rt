@@ -1,4 +1,6 @@
 // The safety check of an image.
+#![tactic(auto)]
+
 pub mod check;
 
 ghost use Rattle.std.specs.Prelude.{◌≡◌};

@@ -1,1 +1,3 @@
 // The documents' examples, computed from the definitions.
+#![tactic(auto)]
+

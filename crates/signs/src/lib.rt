@@ -1,4 +1,6 @@
 // What follows a token: where the text continues, and whether a certain sign or bracket is next.
+#![tactic(auto)]
+
 ghost use Rattle.std.specs.Prelude.{◌≡◌, ◌≤◌};
 ghost use Rattle.classes.specs.Class.{open_bracket, comma, ampersand, bar};
 ghost use Rattle.classes.specs.Inner.ClassTable.{IsClassTable};

@@ -1,4 +1,6 @@
 // Slices of bytes: what is looked for in one, and pieces written into one.
+#![tactic(auto)]
+
 ghost use Rattle.std.specs.Prelude.{◌≡◌, ◌≤◌, ◌+◌, drop, length};
 ghost use Rattle.ascii.specs.Letters.{within};
 ghost use Rattle.slices.specs.Inner.Search.{largest};

@@ -1,4 +1,6 @@
 // Stores given as arguments: a name, a colon and a mode.
+#![tactic(auto)]
+
 ghost use Rattle.std.specs.Prelude.{◌≡◌, ◌≤◌, length, take, drop};
 ghost use Rattle.store_args.specs.Arguments.{named, mode_tested, given_by, arguments_in};
 ghost use Rattle.store_args.specs.Inner.Filling.{Is, next_arg};
@@ -11,7 +13,7 @@ use store_table::{READ_ONLY, READ_WRITE, WRITE_ONLY};
 pub const TABLE_BYTES: usize = 16_452;
 
 // What is wrong with an argument.
-#[derive(Drop)]
+#[derive(Clone, Copy)]
 pub enum Fault {
     NoColon,
     NoMode,
@@ -20,28 +22,28 @@ pub enum Fault {
 }
 
 // A store, by its mode and where its name ends in the argument, or what is wrong.
-#[derive(Drop)]
+#[derive(Clone, Copy)]
 pub enum Given {
     Store { mode: u8, end: usize },
     Wrong(Fault),
 }
 
 // Where the names end with one store's name more, or what is wrong with it.
-#[derive(Drop)]
+#[derive(Clone, Copy)]
 pub enum One {
     Used(usize),
     Wrong(Fault),
 }
 
 // How many stores there are and how many bytes their names have; or the first argument that is wrong, counted from 1.
-#[derive(Drop)]
+#[derive(Clone, Copy)]
 pub enum Filled {
     Stores { count: usize, used: usize },
     Wrong { index: usize, fault: Fault },
 }
 
 // The table's length; or the first argument that is wrong, counted from 1.
-#[derive(Drop)]
+#[derive(Clone, Copy)]
 pub enum Made {
     Table(usize),
     Wrong { index: usize, fault: Fault },

@@ -1,4 +1,6 @@
 // An index of a table's names: where each begins, and for each hash an entry whose name has it; and two stores of one name.
+#![tactic(auto)]
+
 ghost use Rattle.std.specs.Prelude.{◌≡◌, ◌+◌, ◌<◌, length, set};
 ghost use Rattle.store_table.specs.Stores.{entries_in, twin_of};
 ghost use Rattle.store_table.specs.Inner.Bounds.{TableInBounds};

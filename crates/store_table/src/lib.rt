@@ -1,4 +1,6 @@
 // Store tables and confirmed lists: whether bytes are one, and whether two names are the same.
+#![tactic(auto)]
+
 ghost use Rattle.std.specs.Prelude.{◌≡◌, ◌<◌, ◌+◌, ◌≤◌, length, drop, take};
 ghost use Rattle.store_table.specs.Names.{same_name};
 ghost use Rattle.store_table.specs.Stores.{Entry, is_readable, sum, all_at_most, well_made, is_table, is_list, count_in, entries_in, names_start};
@@ -23,7 +25,7 @@ pub const READ_ONLY: u8 = 1;
 pub const WRITE_ONLY: u8 = 2;
 
 // The index of a store whose name an earlier store has, or none.
-#[derive(Drop)]
+#[derive(Clone, Copy)]
 pub enum Twin {
     No,
     At(usize),
@@ -175,7 +177,7 @@ pub fn count_of(s: &[u8]) -> usize
 }
 
 // The index of an entry, or none.
-#[derive(Drop)]
+#[derive(Clone, Copy)]
 pub enum Found {
     No,
     At(usize),

@@ -1,5 +1,7 @@
 // The word reader: a text and a position in it, kept together. Each function is thin: the work is done by those of
 // `tokens`, whose parameters are plain.
+#![tactic(auto)]
+
 pub mod scan;
 
 ghost use Rattle.std.specs.Prelude.{◌≡◌};
@@ -8,7 +10,7 @@ ghost use Rattle.tokens.specs.Token.{token_at};
 
 use tokens::Token;
 
-#[derive(Drop)]
+#[derive(Clone, Copy)]
 pub struct WordReader<'a> {
     text: &'a [u8],
     pos: usize,

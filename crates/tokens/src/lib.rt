@@ -1,4 +1,6 @@
 // The tokens of a text: which token is at a position.
+#![tactic(auto)]
+
 ghost use Rattle.std.specs.Prelude.{◌≡◌, ◌≤◌, ◌<◌, length};
 ghost use Rattle.slices.specs.Text.{part};
 ghost use Rattle.refusals.specs.Refusals.{refusal, half_sign};
@@ -12,7 +14,7 @@ use slices::mark_at;
 
 // A token: its place, and where the text continues after it. A word has its part of the text, without its marks, between
 // the two; a fault is the refusal 4, 5 or 6.
-#[derive(Drop)]
+#[derive(Clone, Copy)]
 pub enum Token {
     End {
         place: usize,
@@ -48,14 +50,14 @@ pub enum Token {
 }
 
 // Where the text continues after a token, if it does.
-#[derive(Drop)]
+#[derive(Clone, Copy)]
 pub enum Next {
     Off,
     To(usize),
 }
 
 // The first of the refusals 4, 5 and 6 in a text, or none.
-#[derive(Drop)]
+#[derive(Clone, Copy)]
 pub enum Scanned {
     Clean,
     Refused(Refusal),

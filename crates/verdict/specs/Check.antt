@@ -8,7 +8,7 @@ use Rattle.grammar.specs.Reading.{Read, rule, refused, read_of}
 use Rattle.store_table.specs.Names.{has}
 use Rattle.store_table.specs.Stores.{Entry, entries_in, all_names, write_only_names}
 use Rattle.evaluate.specs.Evict.{env_of, evict}
-use Rattle.decide.specs.Tests.{firstRefusal, table_test, twin_test}
+use Rattle.decide.specs.Tests.{first_refusal, table_test, twin_test}
 use Rattle.verdict.specs.declared.Unknown.{Unknown}
 use Rattle.verdict.specs.declared.Unknown.TheVariants.{No, At}
 use Rattle.verdict.specs.declared.Verdict.{Verdict}
@@ -68,7 +68,7 @@ check_stores r (e ∷ es) = let stores = e ∷ es in verdict (unknown_in stores 
 
 -- 17, then 18
 unfoldable pub check_rule : Rule → List ℕ → Verdict
-check_rule r s = firstRefusal Refused (table_test s ∷ twin_test s ∷ []) (check_stores r (entries_in s))
+check_rule r s = first_refusal Refused (table_test s ∷ twin_test s ∷ []) (check_stores r (entries_in s))
 
 -- "Check tests 16 to 18"
 abbrev pub check_decoded : Option Rule → List ℕ → Verdict

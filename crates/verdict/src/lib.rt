@@ -1,4 +1,6 @@
 // What checking and judging answer, and the guarantee: definitions and types.
+#![tactic(auto)]
+
 pub mod grades;
 
 ghost use Rattle.std.specs.Prelude.{◌≡◌};
@@ -6,14 +8,14 @@ ghost use Rattle.std.specs.Prelude.{◌≡◌};
 use refusals::Refusal;
 
 // What checking and judging answer.
-#[derive(Drop)]
+#[derive(Clone, Copy)]
 pub enum Verdict {
     Pass,
     Refused(Refusal),
 }
 
 // The index of the first node that names no store, or none.
-#[derive(Drop)]
+#[derive(Clone, Copy)]
 pub enum Unknown {
     No,
     At(usize),

@@ -20,7 +20,7 @@ use Rattle.print.specs.declared.Printing.{Printing}
 use Rattle.print.specs.declared.Printing.TheVariants.{Printed, Refused as Unprinted}
 use Rattle.print.specs.Printed.{print_into}
 use Rattle.print.proofs.Laws.ValueLaws as printing
-use Rattle.answers.specs.Answers.{packedAnswer, ofReading, ofDecision, ofVerdict, ofPrinting}
+use Rattle.answers.specs.Answers.{packed_answer, of_reading, of_decision, of_verdict, of_printing}
 
 -- an answer divided by 2^32 is the number, and its remainder the value
 pub record ReadBack (answer number value : ℕ) : Type 0 where
@@ -28,7 +28,7 @@ pub record ReadBack (answer number value : ℕ) : Type 0 where
   pub value_back : answer % 2 ^ 32 ≡ value
 
 -- since the value is below 2^32
-small : (number value : ℕ) → value < 2 ^ 32 → ReadBack (packedAnswer number value) number value
+small : (number value : ℕ) → value < 2 ^ 32 → ReadBack (packed_answer number value) number value
 small number value h = record { number_back = omega arith; value_back = omega arith }
 
 -- of a refusal
@@ -37,8 +37,8 @@ RefusalBack answer f = ReadBack answer f.number f.place
 
 -- ---- reading
 abbrev pub ReadingBack : Reading → Type 0
-ReadingBack (Read size) = ReadBack (ofReading (Read size)) 0 size
-ReadingBack (Unread f) = RefusalBack (ofReading (Unread f)) f
+ReadingBack (Read size) = ReadBack (of_reading (Read size)) 0 size
+ReadingBack (Unread f) = RefusalBack (of_reading (Unread f)) f
 
 pub read_back : (text buffer : List ℕ) → ReadingBack (read_into text buffer).answer
 read_back text buffer = go (read_into text buffer).answer refl
@@ -49,9 +49,9 @@ read_back text buffer = go (read_into text buffer).answer refl
 
 -- ---- deciding
 abbrev pub DecisionBack : Decision → Type 0
-DecisionBack Evict = ReadBack (ofDecision Evict) 0 1
-DecisionBack Keep = ReadBack (ofDecision Keep) 0 0
-DecisionBack (Undecided f) = RefusalBack (ofDecision (Undecided f)) f
+DecisionBack Evict = ReadBack (of_decision Evict) 0 1
+DecisionBack Keep = ReadBack (of_decision Keep) 0 0
+DecisionBack (Undecided f) = RefusalBack (of_decision (Undecided f)) f
 
 pub decide_back : (image stores : List ℕ) (age : ℕ) (list : List ℕ) → DecisionBack (decide_of image stores age list)
 decide_back image stores age list = go (decide_of image stores age list) refl
@@ -63,8 +63,8 @@ decide_back image stores age list = go (decide_of image stores age list) refl
 
 -- ---- checking and judging
 abbrev pub VerdictBack : Verdict → Type 0
-VerdictBack Pass = ReadBack (ofVerdict Pass) 0 0
-VerdictBack (NotPassed f) = RefusalBack (ofVerdict (NotPassed f)) f
+VerdictBack Pass = ReadBack (of_verdict Pass) 0 0
+VerdictBack (NotPassed f) = RefusalBack (of_verdict (NotPassed f)) f
 
 verdict_back : (v : Verdict) → ((f : Refusal) → v ≡ NotPassed f → f.place < 2 ^ 32) → VerdictBack v
 verdict_back Pass h = small _ _ (omega arith)
@@ -78,8 +78,8 @@ judge_back text stores = verdict_back (judge_of text stores) (λ f e. omega (ari
 
 -- ---- printing
 abbrev pub PrintingBack : Printing → Type 0
-PrintingBack (Printed size) = ReadBack (ofPrinting (Printed size)) 0 size
-PrintingBack (Unprinted f) = RefusalBack (ofPrinting (Unprinted f)) f
+PrintingBack (Printed size) = ReadBack (of_printing (Printed size)) 0 size
+PrintingBack (Unprinted f) = RefusalBack (of_printing (Unprinted f)) f
 
 pub print_back : (image buffer : List ℕ) → PrintingBack (print_into image buffer).answer
 print_back image buffer = go (print_into image buffer).answer refl

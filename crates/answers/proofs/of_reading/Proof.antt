@@ -1,15 +1,15 @@
 -- `answers::of_reading` meets its contract. Assumes nothing.
 use mathlib.Core.Path.{sym, ap, ◌∙◌}
 use borrow.Author.Rules.{rules}
-use Rattle.answers.specs.Answers.{ofReading}
+use Rattle.answers.specs.Answers.{of_reading}
 use Rattle.answers.proofs.of_reading.Statement.{statement}
 use Rattle.answers.proofs.of_reading.Tie as tie
 
 returns : tie.Need-returns
-returns c = c.answer.ensures ∙ sym (ap ofReading c.before.before.reading.given.1)
+returns c = c.answer.ensures ∙ sym (ap of_reading c.before.before.reading.given.1)
 
 returns-2 : tie.Need-returns-2
-returns-2 c = c.answer2.ensures ∙ sym (ap ofReading c.before.before.reading2.given.1)
+returns-2 c = c.answer2.ensures ∙ sym (ap of_reading c.before.before.reading2.given.1)
 
 pub of-reading-spec : {M : Type 1} → statement M
 of-reading-spec =

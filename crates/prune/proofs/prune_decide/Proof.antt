@@ -1,12 +1,12 @@
 -- `prune::prune_decide` meets its contract. Assumes nothing.
 use mathlib.Core.Path.{ap, ◌∙◌}
 use borrow.Author.Rules.{rules}
-use Rattle.answers.specs.Answers.{ofDecision}
+use Rattle.answers.specs.Answers.{of_decision}
 use Rattle.prune.proofs.prune_decide.Statement.{statement}
 use Rattle.prune.proofs.prune_decide.Tie as tie
 
 returns : tie.Need-returns
-returns c = c.of-decision.ensures ∙ ap ofDecision c.before.decide.ensures
+returns c = c.of-decision.ensures ∙ ap of_decision c.before.decide.ensures
 
 pub prune-decide-spec : {M : Type 1} → statement M
 prune-decide-spec =
