@@ -91,6 +91,7 @@ neither false b e = e
 -- each entry's name is not one that was seen
 unseen : (seen : List (List ℕ)) (i : ℕ) (es : List Entry) → twin_from seen i es ≡ No → (e : Entry) → Memᴰ e es → has e.name seen ≡ false
 unfolding twin_from has
+unseen seen i [] t e m = elim m [ ]
 unseen seen i (x ∷ es) t e (Memᴰ.head p) = rw p (no_twin (has x.name seen) i _ t).0
 unseen seen i (x ∷ es) t e (Memᴰ.tail m) =
     neither (same_name e.name x.name) (has e.name seen) (unseen (x.name ∷ seen) (suc i) es (no_twin (has x.name seen) i _ t).1 e m)
