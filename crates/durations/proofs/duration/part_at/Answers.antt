@@ -42,17 +42,11 @@ slice_bounds-eq-start c = (ends (goal.at.slice_bounds-eq-start c).After-unit_end
 pub slice_bounds-eq-end : goal.slice_bounds-eq-end
 slice_bounds-eq-end c = (ends (goal.at.slice_bounds-eq-end c).After-unit_end-end).3
 
--- a unit's name is within its array, which has two elements
-in-name : (c : After-time_unit-unit) → c.time_unit-unit.result.len ≤ length c.time_unit-unit.result.name
-in-name c =
-    let two = sym (length-map c.time_unit-unit.result.name (λ b. b)) ∙ c.time_unit-unit.type-inv.1.1.0.1.0.1 in
-    omega (arith, c.time_unit-unit.ensures.len)
-
 pub slice_bounds-name-end : goal.slice_bounds-name-end
-slice_bounds-name-end c = in-name (goal.at.slice_bounds-name-end c).After-time_unit-unit
+slice_bounds-name-end c = omega (arith, c.time_unit-unit.ensures.len)
 
 pub slice_bounds-eq-end-2 : goal.slice_bounds-eq-end-2
-slice_bounds-eq-end-2 c = sym (length-take-le _ _ (in-name (goal.at.slice_bounds-eq-end-2 c).After-time_unit-unit))
+slice_bounds-eq-end-2 c = sym (length-take-le _ _ (omega (arith, c.time_unit-unit.ensures.len)))
 
 -- what is compared is the name in the word and the unit's
 named : (c : After-eq) →
