@@ -14,6 +14,7 @@ use duration_text::duration_size;
 use image::{is_leaf, name_of, node_at};
 
 // Whether a child of one kind is in brackets under a combinator of another.
+#[tactic(auto, unfolding(crate::specs::Inner::Pieces::bracketed_of))]
 pub fn is_bracketed(kind: u32, child: u32) -> bool
     ensures { result ≡ bracketed_of kind child }
 {
