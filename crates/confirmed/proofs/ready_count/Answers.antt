@@ -1,7 +1,5 @@
 -- `confirmed::ready_count` meets its contract: after k stores it has counted those of them that are ready. Assumes nothing.
 use mathlib.Core.Path.{sym, ap, ◌∙◌}
-use mathlib.Core.Logic.{⊎_elim}
-use Prim.Native.Nat.{◌-◌}
 use native.Mathlib.Omega.{arith}
 use Rattle.store_table.specs.Stores.{is_readable}
 use Rattle.store_table.proofs.Laws.EntriesLaws.{ready_start, ready_end, ready_skip, ready_no, ready_yes}
