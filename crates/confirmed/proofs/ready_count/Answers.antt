@@ -1,13 +1,10 @@
 -- `confirmed::ready_count` meets its contract: after k stores it has counted those of them that are ready. Assumes nothing.
 use mathlib.Core.Path.{sym, ap, ◌∙◌}
-use mathlib.Core.Logic.{⊎_elim}
-use Prim.Native.Nat.{◌-◌}
 use native.Mathlib.Omega.{arith}
 use Rattle.store_table.specs.Stores.{is_readable}
 use Rattle.store_table.proofs.Laws.EntriesLaws.{ready_start, ready_end, ready_skip, ready_no, ready_yes}
 use Rattle.store_table.proofs.Laws.WalkLaws.{length_entries, entry_there}
 use Rattle.confirmed.proofs.ready_count.Goals as goal
-use Rattle.confirmed.proofs.ready_count.Goals.{then-is_readable+then-marks-k-ge1, then-is_readable+else-marks-k-ge1, else-is_readable}
 
 pub loop-k-init : goal.loop-k-init
 loop-k-init c = ready_start _ _
@@ -20,11 +17,7 @@ loop-k-preserved c =
     let l = c.loop-k in
     let (x, e) = entry_there _ l.k c.requires (omega arith) in
     let r = ap is_readable (sym (c.mode_at.ensures x e)) ∙ sym c.is_readable.ensures in
-    elim c.if-is_readable.branch [
-      | then-is_readable+then-marks-k-ge1 w ↦ ready_yes l.invariant e (r ∙ w.if-is_readable.true) w.if-marks-k-ge1.true w.ready-is
-      | then-is_readable+else-marks-k-ge1 w ↦ ready_no l.invariant e (r ∙ w.if-is_readable.true) w.if-marks-k-ge1.false w.ready-is
-      | else-is_readable w ↦ ready_skip l.invariant e (r ∙ w.if-is_readable.false) w.ready-is
-    ]
+    grind (arith, r, ready_yes l.invariant e, ready_no l.invariant e, ready_skip l.invariant e)
 
 pub returns : goal.returns
 returns c =

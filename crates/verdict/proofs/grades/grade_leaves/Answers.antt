@@ -1,7 +1,6 @@
 -- `verdict::grades::grade_leaves` meets its contract: after i turns each of the first i nodes that is a name is a store's, and each that is a leaf has its
 use mathlib.Core.Path.{◌≡◌, refl, ◌∙◌}
-use mathlib.Core.Logic.{⊎_elim}
-use Prim.Native.Nat.{ℕ, ◌-◌, ◌<◌}
+use Prim.Native.Nat.{ℕ, ◌<◌}
 use native.Mathlib.Omega.{arith}
 use lib.ListN.{length, length-set}
 use Rattle.store_table.proofs.Laws.StoresLaws.{well_made_in_bounds}
