@@ -1,10 +1,10 @@
 // Runs a list of cases from standard input, one on a line, and prints the answer of each on a line, and how many there are.
 // Lines that are empty or begin with `#` are passed over. A case is the name of a call and what it is given: `lent` has the
-// calls `read` and `print`, and `calls` the calls `decide`, `check` and `judge`.
+// calls `read` and `print`, and `unlent` the calls `decide`, `check` and `judge`.
 #![tactic(auto)]
 
-mod calls;
 mod lent;
+mod unlent;
 
 use case_lines::answers::print_count;
 use case_lines::fields::{SPACE, front, given, rest};
@@ -17,7 +17,7 @@ fn run_call<W: Write>(output: &mut W, call: u8, given: &[u8], end: &[u8]) -> Res
     if call == READ || call == PRINT {
         return lent::run(output, call, given, end);
     }
-    calls::run(output, call, given, end)
+    unlent::run(output, call, given, end)
 }
 
 // Runs a case: the name of a call, a text or an image, and what else it is given.
