@@ -1,5 +1,4 @@
 -- `store_args::count_args` meets its contract: those counted and those left are all arguments. Assumes nothing.
-use Prim.Native.Nat.{◌-◌}
 use Rattle.store_args.proofs.Laws.SplitLaws.{walk_start, walk_less, walk_on, walk_end}
 use Rattle.store_args.proofs.count_args.Goals as goal
 
