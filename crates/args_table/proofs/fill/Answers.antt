@@ -1,6 +1,6 @@
 -- `args_table::fill` meets its contract: the arrays hold the stores of the arguments read so far. Assumes nothing.
 use mathlib.Core.Path.{refl}
-use Prim.Native.Nat.{◌-◌, ◌≤◌}
+use Prim.Native.Nat.{◌≤◌}
 use native.Mathlib.Omega.{arith}
 use lib.ListN.{length}
 use Rattle.slices.proofs.Laws.TextLaws.{end_within}

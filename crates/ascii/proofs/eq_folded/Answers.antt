@@ -1,6 +1,5 @@
 -- `ascii::eq_folded` meets its contract: what is left of both strings compares as the whole. Assumes nothing.
 use mathlib.Core.Path.{sym, ◌∙◌}
-use Prim.Native.Nat.{◌-◌}
 use native.Mathlib.Omega.{arith}
 use Rattle.ascii.proofs.Laws.TestLaws.{is_so, is_not}
 use Rattle.ascii.proofs.Laws.LettersLaws.{unlike, equal_end, equal_on, equal_off}

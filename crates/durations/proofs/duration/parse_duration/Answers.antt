@@ -1,6 +1,5 @@
 -- `durations::duration::parse_duration` meets its contract: the parts so far and those of the later units make up the duration. Assumes nothing.
 use mathlib.Core.Path.{◌≡◌, sym, ◌∙◌}
-use Prim.Native.Nat.{◌-◌}
 use native.Mathlib.Omega.{arith}
 use Rattle.slices.proofs.Laws.TextLaws.{end_within}
 use Rattle.durations.specs.Duration.{part_at}
@@ -34,15 +33,16 @@ pub loop-rank-preserved : goal.loop-rank-preserved
 loop-rank-preserved c =
     let l = c.loop-rank in
     let h = c.loop-rank-test.true in
-    elim c.match-part_at.branch [ in-Of+else-word-next w ↦
-      (let q = read (goal.at.loop-rank-preserved c).After-part_at w.in-Of.is in
-      rw (w.at-is, w.total-is) (
-        part_within (unit_at l.rank) _ l.at q l.invariant.0,
-        (omega (arith, part_small l.rank _ l.at q), sym (parts_on l.total _ l.at l.rank h q w.if-word-next.false) ∙ l.invariant.1.1),
-      ))
-    | in_default w ↦
-      rw (w.at-is, w.total-is)
-      (l.invariant.0, (omega arith, sym (parts_skip l.total _ l.at l.rank h (read (goal.at.loop-rank-preserved c).After-part_at w.in_default.is)) ∙ l.invariant.1.1))
+    elim c.match-part_at.branch [
+      | in-Of+else-word-next w ↦
+          (let q = read (goal.at.loop-rank-preserved c).After-part_at w.in-Of.is in
+          rw (w.at-is, w.total-is) (
+            part_within (unit_at l.rank) _ l.at q l.invariant.0,
+            (omega (arith, part_small l.rank _ l.at q), sym (parts_on l.total _ l.at l.rank h q w.if-word-next.false) ∙ l.invariant.1.1),
+          ))
+      | in_default w ↦
+          rw (w.at-is, w.total-is)
+          (l.invariant.0, (omega arith, sym (parts_skip l.total _ l.at l.rank h (read (goal.at.loop-rank-preserved c).After-part_at w.in_default.is)) ∙ l.invariant.1.1))
     ]
 
 pub returns : goal.returns

@@ -2,7 +2,7 @@
 use mathlib.Core.Path.{◌≡◌, sym, ap, ◌∙◌}
 use Prim.Native.Nat.{◌≤◌}
 use native.Mathlib.Omega.{arith}
-use lib.ListN.{length, length-map}
+use lib.ListN.{length}
 use lib.Seq.{length-take-le}
 use Rattle.ascii.specs.Letters.{equal}
 use Rattle.slices.specs.Text.{part}
@@ -10,7 +10,7 @@ use Rattle.slices.proofs.Laws.TextLaws.{end_within}
 use Rattle.durations.specs.Inner.Units.{unit_at}
 use Rattle.durations.proofs.Laws.DurationLaws.{amount_small, part_none, part_long, part_other, part_found}
 use Rattle.durations.proofs.duration.part_at.Goals as goal
-use Rattle.durations.proofs.duration.part_at.Goals.{After-eq, After-time_unit-unit, After-unit_end-end}
+use Rattle.durations.proofs.duration.part_at.Goals.{After-eq, After-unit_end-end}
 
 pub returns-then-digits-at : goal.returns-then-digits-at
 returns-then-digits-at c = sym (part_none _ _ _ c.digits_end-digits.ensures c.if-digits-at.true)

@@ -1,7 +1,6 @@
 -- `evaluate::leaves::say_leaves` meets its contract: of the nodes before i each leaf has its number. Assumes nothing.
 use mathlib.Core.Path.{refl, sym, ◌∙◌}
-use mathlib.Core.Logic.{⊎_elim}
-use Prim.Native.Nat.{◌-◌, ◌<◌}
+use Prim.Native.Nat.{◌<◌}
 use native.Mathlib.Omega.{arith}
 use lib.ListN.{length, length-set}
 use Rattle.image.proofs.Laws.KindLaws.{no_leaf}
