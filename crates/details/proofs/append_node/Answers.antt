@@ -48,22 +48,22 @@ name_within c k =
     name_inside _ _ _ c.node_at-node.ensures w.inside.names c.if-n-index.false k
 
 pub name_of-requires : goal.name_of-requires
-name_of-requires c = name_within (goal.at.name_of-requires c).After-node_at-node c.if-kind-eq-NAMED.true
+name_of-requires c = name_within (goal.at.name_of-requires c).After-node_at-node (search rules)
 
 pub append_shown-requires : goal.append_shown-requires
 append_shown-requires c =
     rw c.name_of.ensures
-    (simp length-take (omega (arith, taken_short (the_rule (goal.at.append_shown-requires c).In-Read), name_within (goal.at.append_shown-requires c).After-node_at-node c.if-kind-eq-NAMED.true)))
+    (simp length-take (omega (arith, taken_short (the_rule (goal.at.append_shown-requires c).In-Read), name_within (goal.at.append_shown-requires c).After-node_at-node (search rules))))
 
 pub returns-then-kind-eq-NAMED : goal.returns-then-kind-eq-NAMED
 returns-then-kind-eq-NAMED c =
     rw (name_here (the_rule (goal.at.returns-then-kind-eq-NAMED c).In-Read)
     c.node_count-n.ensures.0 c.node_at-node.ensures
-    c.if-n-index.false c.if-kind-eq-NAMED.true c.name_of.ensures)
+    c.if-n-index.false (search rules) c.name_of.ensures)
     c.append_shown.ensures
 
 pub returns : goal.returns
 unfolding shown_all
 returns c =
     rw (name_not (the_rule (goal.at.returns c).In-Read) c.node_count-n.ensures.0 c.node_at-node.ensures
-    c.if-n-index.false c.if-kind-eq-NAMED.false) (written_at_none _ _)
+    c.if-n-index.false (search rules)) (written_at_none _ _)

@@ -4,8 +4,9 @@ use native.Mathlib.Omega.{arith}
 use lib.ListN.{length}
 use Rattle.store_table.proofs.Laws.WalkLaws.{standing_within}
 use Rattle.page_text.proofs.Laws.ReportLaws.{named_start, named_length, named_end, named_room, named_no, named_yes}
+use borrow.Author.Rules.{rules}
 use Rattle.details.proofs.append_write_only.Goals as goal
-use Rattle.details.proofs.append_write_only.Goals.{After-length_at-len, then-mode_at-eq-WRITE_ONLY, else-mode_at-eq-WRITE_ONLY}
+use Rattle.details.proofs.append_write_only.Goals.{After-length_at-len}
 
 -- the name of store k lies within the bytes
 inside : (c : After-length_at-len) →
@@ -29,23 +30,18 @@ slice_bounds-append_confirmed-end c = omega (arith, inside (goal.at.slice_bounds
 
 pub append_confirmed-end-requires : goal.append_confirmed-end-requires
 append_confirmed-end-requires c =
-    named_room c.loop-k.invariant c.requires.1 c.loop-k-test.true c.length_at-len.ensures.0
-    c.mode_at.ensures c.if-mode_at-eq-WRITE_ONLY.true
+    named_room c.loop-k.invariant c.requires.1 c.loop-k-test.true c.length_at-len.ensures.0 c.mode_at.ensures (search rules)
 
 pub overflow_add-start-in-loop-k : goal.overflow_add-start-in-loop-k
 overflow_add-start-in-loop-k c = omega (arith, inside (goal.at.overflow_add-start-in-loop-k c).After-length_at-len)
 
 pub loop-k-preserved : goal.loop-k-preserved
 loop-k-preserved c =
-    elim c.if-mode_at-eq-WRITE_ONLY.branch [
-      | then-mode_at-eq-WRITE_ONLY u ↦
-          rw (u.page-is, u.end-is)
-          (named_yes c.loop-k.invariant c.requires.1 c.loop-k-test.true c.length_at-len.ensures.0 c.mode_at.ensures u.if-mode_at-eq-WRITE_ONLY.true
-          u.append_confirmed-end.ensures)
-      | else-mode_at-eq-WRITE_ONLY u ↦
-          rw (u.page-is, u.end-is)
-          (named_no c.loop-k.invariant c.requires.1 c.loop-k-test.true c.length_at-len.ensures.0 c.mode_at.ensures u.if-mode_at-eq-WRITE_ONLY.false)
-    ]
+    search (
+      rules,
+      named_yes c.loop-k.invariant c.requires.1 c.loop-k-test.true c.length_at-len.ensures.0 c.mode_at.ensures,
+      named_no c.loop-k.invariant c.requires.1 c.loop-k-test.true c.length_at-len.ensures.0 c.mode_at.ensures,
+    )
 
 pub shape_of-page : goal.shape_of-page
 shape_of-page c =
