@@ -13,11 +13,11 @@ word_start-requires c =
     let w = word_part _ _ (sym c.token_at-t.ensures ∙ c.in-Word.is) in
     omega arith
 
-pub returns-then-depth-ge64 : goal.returns-then-depth-ge64
+pub returns-then-deep : goal.returns-then-deep
 unfolding next_of
-returns-then-depth-ge64 c =
+returns-then-deep c =
     begins_refused c.refuse.ensures refl
-    (rw (head_next _ _ _ (sym c.token_at-t.ensures ∙ c.in-Open.is) refl, too_deep_lem c.if-depth-ge64.true (omega arith)))
+    (rw (head_next _ _ _ (sym c.token_at-t.ensures ∙ c.in-Open.is) refl, too_deep_lem c.if-deep.true (omega arith)))
 
 pub returns-in-Word : goal.returns-in-Word
 unfolding next_of
@@ -27,12 +27,12 @@ returns-in-Word c =
     let behind = steps _ _ word refl in
     rw (head_next _ _ _ word refl) (begins_within c.word_start.ensures (omega arith) (omega arith) (omega arith))
 
-pub returns-else-depth-ge64 : goal.returns-else-depth-ge64
+pub returns-else-deep : goal.returns-else-deep
 unfolding next_of
-returns-else-depth-ge64 c =
+returns-else-deep c =
     let opening = sym c.token_at-t.ensures ∙ c.in-Open.is in
     let inside = steps _ _ opening refl in
-    begins_group (rw (head_next _ _ _ opening refl, not_deep c.if-depth-ge64.false (omega arith))) (omega arith)
+    begins_group (rw (head_next _ _ _ opening refl, not_deep c.if-deep.false (omega arith))) (omega arith)
 
 pub returns-in_default : goal.returns-in_default
 returns-in_default c =

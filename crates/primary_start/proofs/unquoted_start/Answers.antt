@@ -42,12 +42,12 @@ overflow_sub-inside c =
     let inside = (test_on _ _ open_bracket c.bracket_at.ensures c.in-To.is).bounds in
     omega arith
 
-pub returns-then-depth-ge64 : goal.returns-then-depth-ge64
-returns-then-depth-ge64 c =
+pub returns-then-deep : goal.returns-then-deep
+returns-then-deep c =
     begins_refused c.refuse.ensures refl
     (rw (
       (test_on _ _ open_bracket c.bracket_at.ensures c.in-To.is).sign,
-      too_deep_lem c.if-depth-ge64.true (omega arith),
+      too_deep_lem c.if-deep.true (omega arith),
       test_place _ _ open_bracket c.bracket_at.ensures c.in-To.is (omega arith),
     ))
 
@@ -60,5 +60,5 @@ pub returns : goal.returns
 returns c =
     let opening = test_on _ _ open_bracket c.bracket_at.ensures c.in-To.is in
     let inside = opening.bounds in
-    rw (opening.sign, not_deep c.if-depth-ge64.false (omega arith), ← c.function_of.ensures ∙ ap function_of c.word_of-word.ensures)
+    rw (opening.sign, not_deep c.if-deep.false (omega arith), ← c.function_of.ensures ∙ ap function_of c.word_of-word.ensures)
     (begins_within c.call_start.ensures (omega arith) (omega arith) (omega arith))
