@@ -59,7 +59,8 @@ fn word_start(
     requires { IsClassTable class.now × ((start ≤ end) × ((end ≤ next) × (next ≤ length text.now))) }
     ensures { Begins text.now start next (left text.now next) result (word_start text.now depth place (part text.now start end) quoted (tokens_from text.now next)) }
 {
-    if quoted {
+    let named = quoted;
+    if named {
         return PrimaryStart::Name { start, end, next };
     }
     unquoted_start(text, depth, place, start, end, next, class)

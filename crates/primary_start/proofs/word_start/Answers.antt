@@ -4,8 +4,8 @@ use native.Mathlib.Omega.{arith}
 use Rattle.grammar.proofs.Laws.StartLaws.{begins_name}
 use Rattle.primary_start.proofs.word_start.Goals as goal
 
-pub returns-then-quoted : goal.returns-then-quoted
-returns-then-quoted c = rw c.if-quoted.true (begins_name refl (omega arith) (omega arith))
+pub returns-then-named : goal.returns-then-named
+returns-then-named c = rw c.if-named.true (begins_name refl (omega arith) (omega arith))
 
 pub returns : goal.returns
-returns c = rw c.if-quoted.false c.unquoted_start.ensures
+returns c = rw c.if-named.false c.unquoted_start.ensures

@@ -4,12 +4,12 @@ use Rattle.read.proofs.Laws.BufferLaws.{says_short, reads}
 use Rattle.parse_text.proofs.Laws.ParseTextLaws.{read_long}
 use Rattle.read.proofs.read.Goals as goal
 
-pub returns-then-image-lt-IMAGE_BYTES : goal.returns-then-image-lt-IMAGE_BYTES
-returns-then-image-lt-IMAGE_BYTES c = says_short _ _ c.if-image-lt-IMAGE_BYTES.true
+pub returns-then-short : goal.returns-then-short
+returns-then-short c = says_short _ _ c.if-short.true
 
-pub returns-then-text-gt-TEXT_BYTES : goal.returns-then-text-gt-TEXT_BYTES
-returns-then-text-gt-TEXT_BYTES c = sym (reads _ _ c.if-image-lt-IMAGE_BYTES.false (read_long _ c.if-text-gt-TEXT_BYTES.true))
+pub returns-then-long : goal.returns-then-long
+returns-then-long c = sym (reads _ _ c.if-short.false (read_long _ c.if-long.true))
 
 pub returns : goal.returns
 returns c =
-    c.read_fitting.ensures ∙ sym (reads _ _ c.if-image-lt-IMAGE_BYTES.false refl)
+    c.read_fitting.ensures ∙ sym (reads _ _ c.if-short.false refl)
