@@ -33,7 +33,8 @@ fn check_names(
     if evaluate(image, n, 0, n, grades, 2) {
         return refuse(refusals::UNCONFIRMED, 0);
     }
-    if evaluate(image, n, 0, n, grades, 1) {
+    let archived = evaluate(image, n, 0, n, grades, 1);
+    if archived {
         return refuse(refusals::ARCHIVE_ONLY, 0);
     }
     Verdict::Pass
@@ -52,7 +53,8 @@ fn check_in(image: &[u8], n: usize, stores: &[u8], grades: &mut [u8]) -> Verdict
     if let Twin::At(i) = twin_of(stores, &mut starts, &mut slots) {
         return refuse(refusals::TWIN_NAME, i);
     }
-    if count_of(stores) < 1 {
+    let none = count_of(stores) < 1;
+    if none {
         return Verdict::Pass;
     }
     check_names(image, n, stores, &starts, &slots, grades)

@@ -13,7 +13,7 @@ use Rattle.verdict.specs.Check.{oldest, evicts_unconfirmed}
 use Rattle.verdict.proofs.Laws.CheckLaws.{refused_20, refused_21, refused_22, passed}
 use borrow.Author.Rules.{rules}
 use Rattle.safety.proofs.check.check_names.Goals as goal
-use Rattle.safety.proofs.check.check_names.Goals.{After-evaluate, After-evaluate-2}
+use Rattle.safety.proofs.check.check_names.Goals.{After-evaluate, After-evaluate-archived}
 
 -- what the rule says with nothing confirmed, and with just the write-only stores
 the_bare : (c : After-evaluate) →
@@ -24,12 +24,12 @@ the_bare c r z st =
     ∙ by_says _ _ (env_of _ oldest []) _
     (λ i lt l e. (c.grade_leaves.ensures.1 c.in_default.is i lt l e).unconfirmed) r 0 (omega arith) st
 
-the_archived : (c : After-evaluate-2) →
+the_archived : (c : After-evaluate-archived) →
     (let s = c.args in
     (r : Rule) → size r ≡ s.n → EncodedAt r (cell_at s.image.now s.n) 0 →
-    c.evaluate-2.result ≡ evict r (env_of (entries_in s.stores.now) oldest (write_only_names (entries_in s.stores.now))))
+    c.evaluate-archived.result ≡ evict r (env_of (entries_in s.stores.now) oldest (write_only_names (entries_in s.stores.now))))
 the_archived c r z st =
-    c.evaluate-2.ensures r z st
+    c.evaluate-archived.ensures r z st
     ∙ by_says _ _ (env_of _ oldest (write_only_names _)) _
     (λ i lt l e. (c.grade_leaves.ensures.1 c.in_default.is i lt l e).archived) r 0 (omega arith) st
 
@@ -47,18 +47,18 @@ returns-then-evaluate c r z st =
     ∙ refused_21 r _ c.requires.1.1.0 (c.grade_leaves.ensures.0 r z st)
     c.in_default.is (the_bare (goal.at.returns-then-evaluate c).After-evaluate r z st) c.if-evaluate.true
 
-pub evaluate-requires-2 : goal.evaluate-requires-2
-evaluate-requires-2 c =
+pub evaluate-archived-requires : goal.evaluate-archived-requires
+evaluate-archived-requires c =
     (row_of c.requires.0, search rules)
 
-pub returns-then-evaluate-2 : goal.returns-then-evaluate-2
-returns-then-evaluate-2 c r z st =
-    c.refuse-then-evaluate-2.ensures
+pub returns-then-archived : goal.returns-then-archived
+returns-then-archived c r z st =
+    c.refuse-then-archived.ensures
     ∙ refused_22 r _ c.requires.1.1.0 (c.grade_leaves.ensures.0 r z st)
-    c.in_default.is (the_bare (goal.at.returns-then-evaluate-2 c).After-evaluate r z st) c.if-evaluate.false
-    (the_archived (goal.at.returns-then-evaluate-2 c).After-evaluate-2 r z st) c.if-evaluate-2.true
+    c.in_default.is (the_bare (goal.at.returns-then-archived c).After-evaluate r z st) c.if-evaluate.false
+    (the_archived (goal.at.returns-then-archived c).After-evaluate-archived r z st) c.if-archived.true
 
 pub returns : goal.returns
 returns c r z st =
     passed r _ c.requires.1.1.0 (c.grade_leaves.ensures.0 r z st) c.in_default.is
-    (the_bare (goal.at.returns c).After-evaluate r z st) c.if-evaluate.false (the_archived (goal.at.returns c).After-evaluate-2 r z st) c.if-evaluate-2.false
+    (the_bare (goal.at.returns c).After-evaluate r z st) c.if-evaluate.false (the_archived (goal.at.returns c).After-evaluate-archived r z st) c.if-archived.false
