@@ -5,6 +5,7 @@ ghost use Rattle.std.specs.Prelude.{◌≡◌};
 ghost use Rattle.ascii.specs.Letters.{is_digit, lower, folded_if, equal_by, equal, equal_ignoring_case};
 
 // Whether the byte is a decimal digit.
+#[tactic(auto, unfolding(crate::specs::Letters::is_digit))]
 pub fn is_digit(b: u8) -> bool
     ensures { result ≡ is_digit b }
 {
@@ -15,6 +16,7 @@ pub fn is_digit(b: u8) -> bool
 }
 
 // A letter in lower case; any other byte as it is.
+#[tactic(auto, unfolding(crate::specs::Letters::lower))]
 pub fn to_lower(b: u8) -> u8
     ensures { result ≡ lower b }
 {

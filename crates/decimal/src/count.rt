@@ -6,6 +6,7 @@ use crate::{Parsed, digit_of};
 use ascii::is_digit;
 
 // Where the digits of a count begin: after a `+`, if there is one.
+#[tactic(auto, using(crate::proofs::Laws::CountLaws::sign_none, crate::proofs::Laws::CountLaws::sign_on, crate::proofs::Laws::CountLaws::sign_off))]
 fn sign_end(word: &[u8]) -> usize
     ensures { result ≡ sign_end word.now }
 {

@@ -64,6 +64,7 @@ pub fn append(text: &mut [u8], at: usize, piece: &[u8]) -> usize
 }
 
 // Where the next mark of this sort is, from a position on, or the text's length.
+#[tactic(auto, using(crate::proofs::Laws::MarkLaws::mark_out, crate::proofs::Laws::MarkLaws::mark_stop, crate::proofs::Laws::MarkLaws::mark_on))]
 pub fn mark_at(text: &[u8], at: usize, mark: u8) -> usize
     ensures { result ≡ run_end (other mark) text.now at }
 {

@@ -1,13 +1,12 @@
 -- `ascii::eq_folded` meets its contract: what is left of both strings compares as the whole. Assumes nothing.
 use mathlib.Core.Path.{sym, ◌∙◌}
-use Prim.Native.Nat.{◌-◌}
 use native.Mathlib.Omega.{arith}
 use Rattle.ascii.proofs.Laws.TestLaws.{is_so, is_not}
 use Rattle.ascii.proofs.Laws.LettersLaws.{unlike, equal_end, equal_on, equal_off}
 use Rattle.ascii.proofs.eq_folded.Goals as goal
 
 pub returns-then-a-b : goal.returns-then-a-b
-returns-then-a-b c = sym (unlike _ _ _ c.if-a-b.true)
+returns-then-a-b c = sym (unlike _ _ _ (omega arith))
 
 pub returns-then-folded : goal.returns-then-folded
 returns-then-folded c =

@@ -15,7 +15,9 @@ loop-i-init c = (omega arith, refl)
 pub returns-then-b-hi : goal.returns-then-b-hi
 returns-then-b-hi c =
     let l = c.loop-i in
-    sym (last_here _ _ l.i (omega arith) (is_within _ _ _ c.if-lo-b.true c.if-b-hi.true)) ∙ l.invariant.1
+    let a = c.args in
+    let b = get_or a.s.now (l.i - 1) 0 in
+    sym (last_here _ _ l.i (omega arith) (is_within a.lo a.hi b (omega arith) (omega arith))) ∙ l.invariant.1
 
 pub loop-i-preserved : goal.loop-i-preserved
 loop-i-preserved c =

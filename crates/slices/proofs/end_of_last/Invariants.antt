@@ -1,6 +1,6 @@
 -- `slices::end_of_last` meets its contract: the bytes passed fail the test. Assumes nothing.
 use mathlib.Core.Path.{◌≡◌}
-use Prim.Native.Nat.{◌≤◌, ◌-◌}
+use Prim.Native.Nat.{◌≤◌}
 use Rattle.ascii.specs.Letters.{within}
 use Rattle.slices.specs.Text.{end_of_last}
 use Rattle.slices.proofs.end_of_last.Given as goal

@@ -1,5 +1,4 @@
 -- `slices::largest_from` meets its contract: the largest byte so far, or the largest of those left. Assumes nothing.
-use Prim.Native.Nat.{◌-◌}
 use native.Mathlib.Omega.{arith}
 use Rattle.slices.proofs.Laws.SearchLaws.{largest_out, largest_on}
 use Rattle.slices.proofs.largest_from.Goals as goal

@@ -1,7 +1,7 @@
 -- `decimal::count::parse_count` meets its contract: the bytes left, read after the number so far, write the count. Assumes nothing.
 use mathlib.Core.Path.{◌≡◌, sym, ◌∙◌}
 use mathlib.Core.Bool.{true}
-use Prim.Native.Nat.{◌+◌, ◌-◌, ◌*◌}
+use Prim.Native.Nat.{◌+◌, ◌*◌}
 use native.Mathlib.Omega.{arith}
 use lib.ListN.{drop, get_or}
 use Rattle.ascii.specs.Letters.{is_digit}

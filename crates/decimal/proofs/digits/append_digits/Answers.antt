@@ -11,5 +11,4 @@ pub prepend_digits-requires : goal.prepend_digits-requires
 prepend_digits-requires c = omega (arith, digits_short c.args.n)
 
 pub returns : goal.returns
-returns c =
-    written_at_from _ (omega (arith, c.digit_count.ensures)) c.prepend_digits.ensures
+returns c = written_at_from _ (omega arith) c.prepend_digits.ensures
