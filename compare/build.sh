@@ -30,10 +30,7 @@ link=()
 make_library() {
     library=(target/staticlib/libprune.a)
     link=(-L native=target/staticlib -l static=prune)
-    if [ ! -f "${library[0]}" ] || [ -n "$(find crates -type f -newer "${library[0]}" -print -quit)" ]; then
-        rt staticlib prune >&2
-        touch "${library[0]}"
-    fi
+    tools/staticlib >&2
 }
 
 # build NAME MAIN FLAG..: the program target/compare/NAME from compare/src/MAIN, with these flags for rustc besides the usual ones,

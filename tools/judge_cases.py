@@ -18,10 +18,12 @@ ROOT = pathlib.Path(sys.argv[1] if len(sys.argv) > 1 else pathlib.Path(__file__)
 STORES = 'nas:read-write vault:write-only'
 PASS = 'pass\nat any age'
 LOOK = 'judge: first look, not proved here: '
+PROGRAM = 'crates/rulejudge/out/rulejudge'
+READER = 'crates/ruleread/out/ruleread'
 # The program is older than its source: it is built again, but nothing is left to prove.
-OLD = 'touch -t 200001010000 target/bin/rulejudge;'
+OLD = f'touch -t 200001010000 {PROGRAM};'
 
-# With another `rt try`: `leave` in it leaves a program where the linked one is looked for.
+# With another `rt try`.
 TRY = 'PATH="$WORK/rt:$PATH" TRY='
 
 # Command, exit status, how standard output begins, what standard error has in it.
@@ -76,13 +78,15 @@ CASES = [
     (f'./judge nas {STORES} 2>&-', 0, PASS, ''),
     (f'./judge vault {STORES} <&- 2>&-', 1, 'no 22 0\n', ''),
     (f'(sleep 0.2; ./judge nas {STORES}; echo $? >&2) | true', 0, '', '3'),
-    # The programs themselves, whose exit status is always 0.
-    ('printf nas | target/bin/rulejudge nas:read-write >/dev/full', 0, '', 'rulejudge: standard output: No space left'),
-    ('printf nas | target/bin/rulejudge nas:read-write >&-', 0, '', 'rulejudge: standard output: Bad file'),
-    ('target/bin/rulejudge nas:read-write <.', 0, '', 'rulejudge: standard input: Is a directory'),
-    ('printf nas | target/bin/ruleread >/dev/full', 0, '', 'ruleread: standard output: No space left'),
-    ('printf nas | target/bin/ruleread >&-', 0, '', 'ruleread: standard output: Bad file'),
-    ('target/bin/ruleread <&-', 0, '', 'ruleread: standard input: Bad file'),
+    # The programs themselves, whose exit status is 0 whatever they print, and 1 where they could not read or write.
+    (f'printf vault | {PROGRAM} vault:write-only', 0, 'no 22 0\narchive only', ''),
+    (f'printf "nas &" | {READER}', 0, 'no 4 4\n', ''),
+    (f'printf nas | {PROGRAM} nas:read-write >/dev/full', 1, '', 'rulejudge: standard output: No space left'),
+    (f'printf nas | {PROGRAM} nas:read-write >&-', 1, '', 'rulejudge: standard output: Bad file'),
+    (f'{PROGRAM} nas:read-write <.', 1, '', 'rulejudge: standard input: Is a directory'),
+    (f'printf nas | {READER} >/dev/full', 1, '', 'ruleread: standard output: No space left'),
+    (f'printf nas | {READER} >&-', 1, '', 'ruleread: standard output: Bad file'),
+    (f'{READER} <&-', 1, '', 'ruleread: standard input: Bad file'),
     # From anywhere.
     (f'cd / && "$OLDPWD/judge" nas {STORES}', 0, PASS, ''),
     (f'cd crates && ../judge nas {STORES}', 0, PASS, ''),
@@ -114,14 +118,14 @@ BUILDS = [
     # One that fails, one that says something else, and one that does not end.
     (f"{OLD} {TRY}'exit 1' ./judge vault {STORES}", 1, 'no 22 0\n', ''),
     (f"{OLD} {TRY}'exit 1' ./judge vault {STORES} 2>&1 >/dev/null | grep -c 'first look'", 1, '0\n', ''),
-    (f"{OLD} {TRY}'leave echo pass' ./judge vault {STORES}", 1, 'no 22 0\n', f'{LOOK}pass\n'),
-    (f"{OLD} {TRY}'leave sleep 300' ./judge vault {STORES} 2>&1 >/dev/null | grep -c 'first look'", 1, '0\n', ''),
+    (f"{OLD} {TRY}'echo pass' ./judge vault {STORES}", 1, 'no 22 0\n', f'{LOOK}pass\n'),
+    (f"{OLD} {TRY}'sleep 300' ./judge vault {STORES} 2>&1 >/dev/null | grep -c 'first look'", 1, '0\n', ''),
     # Nothing is left of it, even where it is ended.
     (f'{OLD} ./judge nas {STORES} >/dev/null; ls target | grep -c look', 1, '0\n', ''),
     (f'{OLD} ./judge nas {STORES} & sleep 1; kill $!; wait $!; echo $?; ls target | grep -c look', 1, '3\n0\n', ''),
     # No rt, and a program that was removed.
     (f'{OLD} PATH=/usr/bin:/bin ./judge nas {STORES}', 3, '', 'not on the PATH'),
-    (f'rm target/bin/rulejudge; ./judge vault {STORES}', 1, 'no 22 0\n', f'{LOOK}no 22 0\n'),
+    (f'rm {PROGRAM}; ./judge vault {STORES}', 1, 'no 22 0\n', f'{LOOK}no 22 0\n'),
 ]
 
 
@@ -131,7 +135,6 @@ def run(command, seconds):
     rt = pathlib.Path(work, 'rt', 'rt')
     rt.parent.mkdir()
     rt.write_text(f'#!/bin/sh\n[ "$1" = try ] || exec {shutil.which("rt")} "$@"\n'
-                  'leave() { printf "#!/bin/sh\\nexec $*\\n" >"$RATTLE_HOME/../program"; chmod +x "$RATTLE_HOME/../program"; }\n'
                   'eval "$TRY"\n')
     rt.chmod(0o755)
     try:
@@ -146,7 +149,7 @@ def run(command, seconds):
 
 def main():
     subprocess.run([ROOT / 'judge', 'nas', 'nas:read-write'], stdin=subprocess.DEVNULL, stdout=subprocess.DEVNULL)
-    subprocess.run(['rt', 'check', 'ruleread'], cwd=ROOT, stdout=subprocess.DEVNULL)
+    subprocess.run(['rt', 'run'], cwd=ROOT / 'crates' / 'ruleread', stdin=subprocess.DEVNULL, stdout=subprocess.DEVNULL, stderr=subprocess.DEVNULL)
     different = 0
     for command, status, begins, said in CASES + BUILDS:
         got, out, err = run(command, 20 if (command, status, begins, said) in CASES else 200)

@@ -35,7 +35,7 @@ WORD = r'[^\s(){}\[\];,.:=]+'
 # How antt, Rattle and Rust declare a name.
 ANTT = re.compile(rf'^\s*(?:(?:abbrev|unfoldable|pub|data|record|mutual|module)\s+)*({WORD})(?=[\s({{:])', re.M)
 # Words in backticks that belong to the language or a command, or mean any name.
-PLAIN = {'requires', 'ensures', 'Laws', 'stdout', 'f', '..', 'rt staticlib prune'}
+PLAIN = {'requires', 'ensures', 'Laws', 'stdout', 'f', '..'}
 CODE = re.compile(r'\b(?:fn|const|struct|enum|mod|trait|static)\s+(\w+)')
 # What is no sentence of a document: code, headings, the head of a table.
 SKIPPED = re.compile(r'^```[\s\S]*?^```|^#.*|^\|.*\n\|-.*', re.M)

@@ -24,9 +24,9 @@ ENTRY_POINTS = {
     'read_line': ['reading_line'], 'page': ['report'],
 }
 # The law that leaves nothing of some files to believe, and those files.
-LAW = (CRATES / 'image' / 'proofs' / 'Laws' / 'ImageLaws.antt', 'decode-encode')
+LAW = (CRATES / 'image' / 'proofs' / 'Laws' / 'ImageLaws.antt', 'decode_encode')
 PINNED = {CRATES / 'image' / 'specs' / 'Decode.antt', CRATES / 'image' / 'specs' / 'Layout.antt'}
-IMPORT = re.compile(r'^(?:ghost )?use Rattle·(\w+)(?:·(?:specs|proofs))?\.(specs|proofs)\.([\w.+-]+?)(?:\.\{(.*)\}| as (\w+))?;?$', re.M)
+IMPORT = re.compile(r'^(?:ghost )?use Rattle\.(\w+)\.(specs|proofs)\.([\w.+-]+?)(?:\.\{(.*?)\}| as (\w+))?;?$', re.M | re.S)
 # The head of a declaration, inside a mutual block too: its kind, if it has one, and its name.
 HEAD = re.compile(r'^ *(?:(?:unfoldable|abbrev|pub) )*(data |record )?([^\s(){};,:]+)(?: [({][^:]*:[^)}]*[)}]| \{\w+\})* :')
 CONSTRUCTOR = re.compile(r'^ +(\S+) :')
@@ -81,14 +81,15 @@ def declared(file):
 def cites(text, names):
     """What a text cites of these names; an operator by its sign."""
     words = set(NAME.findall(text))
-    return [place for name, place in names.items() if name in words or (name.strip('_') in words and '_' in name)]
+    return [place for name, place in names.items() if name in words or (name.strip('◌') in words and '◌' in name)]
 
 
 def contract(crate, function):
     """The contract of a function, and the names that it may cite."""
     text = (CRATES / crate / 'src' / 'lib.rt').read_text()
     start = re.search(rf'\bfn {function}\(', text).start()
-    return ' '.join(re.findall(r'⌜.*?⌝', text[start:text.index('\n{', start)], re.S)), imported(text)
+    clauses = re.findall(r'^\s*(?:requires|ensures)\*?(?: \w+)? \{(.*?)\}$', text[start:text.index('\n{', start)], re.M | re.S)
+    return ' '.join(clauses), imported(text)
 
 
 def scope(file):

@@ -42,7 +42,7 @@ def programs():
 
 def build():
     """The commands with which README builds and runs the programs."""
-    block = re.search(r'^    rt staticlib prune\n(?:    .*\n)+', README, re.M)
+    block = re.search(r'^    tools/staticlib\n(?:    .*\n)+', README, re.M)
     return [line[4:] for line in block[0].splitlines()]
 
 

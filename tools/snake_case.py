@@ -43,7 +43,7 @@ FIRST = [
 ROOT = pathlib.Path('.')
 NAME = r"[a-zα-ω][\w'₀-₉]*(?:-[\w'₀-₉]+)*"
 TOKEN = re.compile(rf"(?<![\w'\-◌₀-₉])({NAME})(?![\w'◌₀-₉])")
-SIGNATURE = re.compile(rf"^\s*(?:(?:abbrev|unfoldable|pub|mutual|private)\s+)*({NAME}(?:\s+{NAME})*)\s*:\s", re.M)
+SIGNATURE = re.compile(rf"^\s*(?:(?:abbrev|unfoldable|pub|mutual|private)\s+)*({NAME}(?:\s+{NAME})*)(?:\s*\{{[^}}]*\}})?\s*:\s", re.M)
 DATA = re.compile(r"^\s*(?:pub\s+)?data\s.*?(?:=|where)(.*?)(?=^\S|\Z)", re.M | re.S)
 IMPORT = re.compile(r"^(?:pub )?use (\S+)\.\{([^}]*)\}", re.M)
 PATH = re.compile(r'Rattle(?:\.[\w+]+)+')

@@ -1,4 +1,4 @@
-//! Prune rules, proved: a safe face of `libprune.a` (`rt staticlib prune`). Copy this file and link the library, e.g.
+//! Prune rules, proved: a safe face of `libprune.a` (`tools/staticlib`). Copy this file and link the library, e.g.
 //! `rustc main.rs -L native=target/staticlib -l static=prune`; it needs nothing else
 //! (Rust 1.82 or later).
 //!

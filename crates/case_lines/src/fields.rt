@@ -4,8 +4,8 @@ use decimal::Parsed;
 use decimal::count::parse_count;
 use slices::mark_at;
 
-// More bytes than any field has: those of `io::large_buffer`, which is handed back whole where a field is not in the format. A line
-// has fewer too.
+// More bytes than any field has: those of the buffer for a field's bytes, which is handed back whole where a field is not in the format.
+// A line has fewer too.
 pub const SPACE: usize = 65536;
 
 // The bytes at the front, as many as asked and no more than there are.

@@ -1,5 +1,5 @@
-// The lines of an input, read by way of a chunk, which is filled from standard input whenever it is used up.
-use libc::STDIN_FILENO;
+// The lines of an input, read by way of a chunk, which is filled whenever it is used up.
+use std::io::{Read, Result};
 
 // Where the reading is: the next byte of the chunk, or 0 where the chunk is used up; how many bytes the chunk has; and how many the
 // line has that was read.
@@ -61,11 +61,11 @@ fn index_after(i: usize, filled: usize) -> usize {
 }
 
 // Fills a chunk anew where it is used up, with no bytes at the input's end, and answers how many bytes it has.
-fn refill(chunk: &mut [u8], next: usize, filled: usize) -> usize {
+fn refill<R: Read>(input: &mut R, chunk: &mut [u8], next: usize, filled: usize) -> Result<usize> {
     if next > 0 {
-        return filled;
+        return Ok(filled);
     }
-    io::read_full(STDIN_FILENO, chunk)
+    input.read(chunk)
 }
 
 // Whether the reading goes on after a byte: in a line, and after a line that is no case, up to the input's end.
@@ -77,23 +77,24 @@ fn goes_on(b: u8, size: usize, filled: usize) -> bool {
 }
 
 // Reads on to the next case: lines that are empty or begin with `#` are passed over, and the last one may lack its line end. At the
-// end of the input its size is 0. Nothing says that an input ends, so the bytes are counted down from a number that no run uses up.
-pub fn next_case(line: &mut [u8], chunk: &mut [u8], from: Place) -> Place {
+// end of the input its size is 0. Nothing says that an input ends, so the bytes are counted up to a number that no run comes to.
+pub fn next_case<R: Read>(
+    input: &mut R,
+    line: &mut [u8],
+    chunk: &mut [u8],
+    from: Place,
+) -> Result<Place> {
     let mut next = from.next;
     let mut filled = from.filled;
     let mut size = 0;
-    let mut turns = u64::MAX;
-    let mut b = b' ';
-    while turns > 0 && goes_on(b, size, filled) {
-        filled = refill(chunk, next, filled);
-        b = byte_at(chunk, next, filled);
+    for _ in 0..u64::MAX {
+        filled = refill(input, chunk, next, filled)?;
+        let b = byte_at(chunk, next, filled);
         next = index_after(next, filled);
         size = put(line, size, b);
-        turns -= 1;
+        if !goes_on(b, size, filled) {
+            break;
+        }
     }
-    Place {
-        next: next,
-        filled: filled,
-        size: size,
-    }
+    Ok(Place { next, filled, size })
 }

@@ -5,7 +5,7 @@ use crate::answers::{REFUSED, print_bytes, print_refusal};
 use crate::fields::front;
 use decimal::Parsed;
 use decimal::count::parse_count;
-use libc::STDOUT_FILENO;
+use std::io::{Result, Write};
 
 // What every byte of the memory is before a call. No text has such a byte, and few images.
 const FILL: u8 = 165;
@@ -51,22 +51,20 @@ fn changed_at(memory: &[u8], from: usize) -> usize {
 }
 
 // Says so before the answer where the memory is changed after the bytes written.
-fn print_change(memory: &[u8], written: usize) {
+fn print_change<W: Write>(output: &mut W, memory: &[u8], written: usize) -> Result<()> {
     let place = changed_at(memory, written);
     if place < memory.len() {
-        io::write_all(STDOUT_FILENO, b"memory changed at ");
-        io::print_decimal(STDOUT_FILENO, place as u64);
-        io::write_all(STDOUT_FILENO, b": ");
+        return write!(output, "memory changed at {place}: ");
     }
+    Ok(())
 }
 
 // The answer of a call in a memory: the bytes that it wrote to its front, or a refusal.
-pub fn print_lent(answer: u64, memory: &[u8]) {
+pub fn print_lent<W: Write>(output: &mut W, answer: u64, memory: &[u8]) -> Result<()> {
     if answer < REFUSED {
-        print_change(memory, answer as usize);
-        print_bytes(front(memory, answer as usize));
-    } else {
-        print_change(memory, 0);
-        print_refusal(answer);
+        print_change(output, memory, answer as usize)?;
+        return print_bytes(output, front(memory, answer as usize));
     }
+    print_change(output, memory, 0)?;
+    print_refusal(output, answer)
 }

@@ -1,10 +1,15 @@
 // Standard input, the arguments and standard output of the programs.
 #![tactic(auto)]
 
-ghost use Rattle.std.specs.Prelude.{◌≤◌, ◌+◌, length};
-ghost use Rattle.console.specs.Inner.Input.{size_of};
+ghost use Rattle.std.specs.Prelude.{◌≡◌, ◌≤◌, ◌<◌, ◌+◌, length, take, IfOk, IfSome};
+ghost use Rattle.std.specs.Io.KnownBytes.{Appends, Consumes, IsAtEnd};
+ghost use Rattle.std.specs.Process.{exit_status};
 
-use libc::{ENAMETOOLONG, STDIN_FILENO, STDOUT_FILENO};
+use std::env::FillError;
+use std::io;
+use std::io::{Read, Write};
+use std::process::ExitCode;
+use std::rt::Env;
 
 // One byte more than a text may have, which is enough to detect a long one.
 pub const READ_BYTES: usize = 2049;
@@ -15,77 +20,67 @@ const ARG_BYTES: usize = 267;
 // 65 arguments, which is enough to detect too many, each with a 0 after it.
 pub const ARGS_BYTES: usize = 17_420;
 
-// What was read: how many bytes, or that a read failed.
-#[derive(Clone, Copy)]
-pub enum Input {
-    Bytes(usize),
-    Failed,
-}
-
-// Reads once from standard input.
-fn read_some(text: &mut [u8]) -> Input
-    ensures { size_of result ≤ length text.new }
-{
-    let got = libc::read(STDIN_FILENO, text);
-    if got < 0 {
-        return Input::Failed;
-    }
-    Input::Bytes(io::count(got, text))
-}
-
-// Reads from standard input until the text is full or the input ends.
-pub fn read_text(text: &mut [u8]) -> Input
-    ensures { size_of result ≤ length text.new }
+// Reads until the text is full or the input ends, and answers how many bytes were read.
+pub fn read_text<R: Read>(input: &mut R, text: &mut [u8]) -> io::Result<usize>
+    ensures fits { IfOk result (λ size. size ≤ length text.new) }
+    ensures read { IfOk result (λ size. Consumes (R.remaining input.old) (R.remaining input.new) (take size text.new)) }
+    ensures end { IfOk result (λ size. size < length text.new → IsAtEnd (R.remaining input.new)) }
 {
     let mut done = 0;
     while done < text.len() {
-        let some = read_some(&mut text[done..]);
-        let Input::Bytes(more) = some else {
-            return some;
-        };
+        let more = input.read(&mut text[done..])?;
         if more == 0 {
-            return Input::Bytes(done);
+            return Ok(done);
         }
         done += more;
     }
-    Input::Bytes(done)
+    Ok(done)
 }
 
-// Writes argument i, or the first bytes of one that is too long, and a 0 after it, and answers where that ends.
-fn collect_one(args: &mut [u8], at: usize, i: usize) -> usize
+// Writes argument i, or the first bytes of one that is too long, and a 0 after it, and answers where that ends; nothing where there is
+// no such argument.
+fn collect_one(env: &impl Env, args: &mut [u8], at: usize, i: usize) -> Option<usize>
     requires { at + 268 ≤ length args.old }
-    ensures { result ≤ at + 268 }
+    ensures { IfSome result (λ end. end ≤ at + 268) }
 {
-    let got = os::arg(i, &mut args[at..at + ARG_BYTES]);
-    let mut end = at + got;
-    if os::errno() == ENAMETOOLONG {
-        end = at + ARG_BYTES;
-    }
+    let end = match env.arg(i, &mut args[at..at + ARG_BYTES]) {
+        Ok(size) => at + size,
+        Err(FillError::TooLong) => at + ARG_BYTES,
+        Err(FillError::NotPresent) => return None,
+    };
     args[end] = 0;
-    end + 1
+    Some(end + 1)
 }
 
 // Writes the program's arguments one after another, each with a 0 after it, and answers where the last ends.
-pub fn collect(args: &mut [u8]) -> usize
+pub fn collect(env: &impl Env, args: &mut [u8]) -> usize
     requires { 17_420 ≤ length args.old }
     ensures { result ≤ 17_420 }
 {
-    let count = os::arg_count();
     let mut at = 0;
-    let mut i = 1;
-    while i < count {
-        if 65 < i {
+    for i in 1..66 {
+        let Some(end) = collect_one(env, args, at, i) else {
             return at;
-        }
-        at = collect_one(args, at, i);
-        i += 1;
+        };
+        at = end;
     }
     at
 }
 
-// Writes all of an answer to standard output; where that fails, a line on standard error says so.
-pub fn write_out(answer: &[u8], what: &[u8]) {
-    if !io::write_all(STDOUT_FILENO, answer) {
-        os::fail(what);
+// Says on standard error what failed and why, and answers the exit status of a program that failed.
+pub fn fail(rt: &impl Eprint, what: &str, why: &io::Error) -> ExitCode
+    ensures { exit_status result ≡ 1 }
+{
+    let _ = eprintln!(rt; "{what}: {why}");
+    ExitCode::FAILURE
+}
+
+// Writes all of an answer; where that fails, a line on standard error says so, and the exit status is that of a program that failed.
+pub fn write_out<W: Write>(rt: &impl Eprint, output: &mut W, answer: &[u8], what: &str) -> ExitCode
+    ensures { exit_status result ≡ 0 → Appends (W.contents output.old) (W.contents output.new) answer.now }
+{
+    match output.write_all(answer) {
+        Ok(()) => ExitCode::SUCCESS,
+        Err(why) => fail(rt, what, &why),
     }
 }

@@ -20,7 +20,8 @@ fn children_fit(image: &[u8], n: usize, from: usize, end: usize) -> bool
     while from < at {
         let child = node_at(image, n, at - 1);
         let back = child.size;
-        if at - from < back {
+        let past = at - from < back;
+        if past {
             return false;
         }
         at -= back;
@@ -47,7 +48,8 @@ fn node_fits(image: &[u8], n: usize, i: usize) -> bool
                     return false;
                 }
             }
-            if size < 2 {
+            let small = size < 2;
+            if small {
                 return false;
             }
             if i + 1 < size {

@@ -53,6 +53,7 @@ fn judge_2048(text: &[u8], stores: &[u8]) -> Verdict
 }
 
 // Judges a text: reads it, and checks the rule. The buffer is chosen by the text's length.
+#[tactic(auto, using(crate::proofs::Judging::judge_long, crate::proofs::Judging::judge_guarantee))]
 pub fn judge(text: &[u8], stores: &[u8]) -> Verdict
     ensures { (result ≡ judge_of text.now stores.now) × Judged text.now stores.now result }
 {

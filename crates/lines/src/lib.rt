@@ -48,6 +48,7 @@ pub fn append_meaning(text: &mut [u8], at: usize, number: u8) -> usize
 }
 
 // A byte as it is shown: a tab as a blank, and any other byte that does not print as a question mark.
+#[tactic(auto, unfolding(crate::specs::Lines::shown))]
 fn shown_byte(b: u8) -> u8
     ensures { result ≡ shown b }
 {

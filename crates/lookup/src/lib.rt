@@ -31,6 +31,7 @@ pub fn position(name: &[u8], s: &[u8], first: usize) -> Found
 }
 
 // An entry that has this name among the first `first`, which are indexed; the name's hash is known.
+#[tactic(auto, using(store_table::proofs::Laws::IndexLaws::finds_none, store_table::proofs::Laws::IndexLaws::slot_empty))]
 pub fn find_by(
     name: &[u8],
     hash: usize,

@@ -13,7 +13,7 @@ use nodes::{ParseEnd, push_combinator, push_name, push_test};
 use primary_start::primary_start_at;
 
 // or: and-expressions, joined by or-signs.
-#[cycle(parse_and_parse_or_parse_primary)]
+#[cycle(expression)]
 pub fn parse_or(
     text: &[u8],
     at: usize,
@@ -72,7 +72,7 @@ pub fn parse_or(
 }
 
 // and: primaries, joined by and-signs.
-#[cycle(parse_and_parse_or_parse_primary)]
+#[cycle(expression)]
 pub fn parse_and(
     text: &[u8],
     at: usize,
@@ -131,7 +131,7 @@ pub fn parse_and(
 }
 
 // primary: a leaf, an expression in brackets, or a function over a list of expressions.
-#[cycle(parse_and_parse_or_parse_primary)]
+#[cycle(expression)]
 pub fn parse_primary(
     text: &[u8],
     at: usize,

@@ -38,7 +38,8 @@ fn unquoted_start(
         }
         return PrimaryStart::Name { start, end, next };
     };
-    if 64 <= depth {
+    let deep = 64 <= depth;
+    if deep {
         return refuse(refusals::TOO_DEEP, inside - 1);
     }
     call_start(text, place, function_of(word), inside, class)
@@ -58,7 +59,8 @@ fn word_start(
     requires { IsClassTable class.now × ((start ≤ end) × ((end ≤ next) × (next ≤ length text.now))) }
     ensures { Begins text.now start next (left text.now next) result (word_start text.now depth place (part text.now start end) quoted (tokens_from text.now next)) }
 {
-    if quoted {
+    let named = quoted;
+    if named {
         return PrimaryStart::Name { start, end, next };
     }
     unquoted_start(text, depth, place, start, end, next, class)
@@ -79,7 +81,8 @@ pub fn primary_start_at(text: &[u8], at: usize, depth: usize, class: &[u8; 256])
             next,
         } => word_start(text, depth, place, start, end, quoted, next, class),
         Token::Open { place, next } => {
-            if 64 <= depth {
+            let deep = 64 <= depth;
+            if deep {
                 return refuse(refusals::TOO_DEEP, place);
             }
             PrimaryStart::Group { next }

@@ -97,13 +97,15 @@ pub fn read_fitting(text: &[u8], image: &mut [u8]) -> Reading
 pub fn read(text: &[u8], image: &mut [u8]) -> Reading
     ensures { outcome result image.new ≡ read_into text.now image.old }
 {
-    if image.len() < IMAGE_BYTES {
+    let short = image.len() < IMAGE_BYTES;
+    if short {
         return Reading::Refused(Refusal {
             number: refusals::SHORT_BUFFER,
             place: 0,
         });
     }
-    if TEXT_BYTES < text.len() {
+    let long = TEXT_BYTES < text.len();
+    if long {
         return Reading::Refused(Refusal {
             number: refusals::LONG_TEXT,
             place: 0,

@@ -3,6 +3,7 @@
 use case_lines::answers::print_fault;
 use case_lines::memory::{ROOM, filled, front_mut, print_lent, room_of};
 use case_lines::names::READ;
+use std::io::{Result, Write};
 
 // Reads a text or prints an image into a buffer.
 fn answer_in(call: u8, given: &[u8], buffer: &mut [u8]) -> u64 {
@@ -13,13 +14,13 @@ fn answer_in(call: u8, given: &[u8], buffer: &mut [u8]) -> u64 {
 }
 
 // Runs a call in a memory that has the lent buffer and 1,000 bytes after it.
-pub fn run(call: u8, given: &[u8], field: &[u8]) {
+pub fn run<W: Write>(output: &mut W, call: u8, given: &[u8], field: &[u8]) -> Result<()> {
     let room = room_of(field);
     if room > ROOM {
-        return print_fault();
+        return print_fault(output);
     }
     let mut memory = filled();
     let lent = front_mut(&mut memory, room + 1000);
     let answer = answer_in(call, given, front_mut(lent, room));
-    print_lent(answer, lent);
+    print_lent(output, answer, lent)
 }

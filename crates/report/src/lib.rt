@@ -16,6 +16,7 @@ use slices::append;
 use verdict::Verdict;
 
 // What a refusal of a text for these stores is about.
+#[tactic(auto, using(page_text::proofs::Laws::ReportLaws::detail_none, slices::proofs::Laws::WrittenLaws::written_at_none, slices::proofs::Laws::SearchLaws::is_within), unfolding(page_text::specs::Report::detail))]
 fn append_detail(page: &mut [u8], at: usize, text: &[u8], stores: &[u8], f: Refusal) -> usize
     requires { Room page.old at text.now stores.now f }
     ensures { WrittenAt page.old page.new at result (detail text.now (entries_in stores.now) f) }

@@ -1,3 +1,2 @@
 // The documents' examples, computed from the definitions.
 #![tactic(auto)]
-

@@ -11,6 +11,7 @@ use classes::{class_at, class_end};
 use tokens::{Next, Token, doubled_at, unquoted_at};
 
 // Where the text continues after a token.
+#[tactic(auto, unfolding(tokens::specs::Token::next_of))]
 pub fn next_of(t: Token) -> Next
     ensures { result ≡ next_of t }
 {
@@ -33,6 +34,7 @@ pub fn next_of(t: Token) -> Next
 }
 
 // The place of a token: its first byte; of the end, the text's length.
+#[tactic(auto, unfolding(tokens::specs::Token::place_of_of))]
 pub fn place_of(t: Token) -> usize
     ensures { result ≡ place_of_of t }
 {
@@ -55,6 +57,7 @@ pub fn place_of(t: Token) -> usize
 }
 
 // Where the text continues after a bracket or a comma of this class, if that is the next token.
+#[tactic(auto, using(tokens::proofs::Laws::SignLaws::behind_end, tokens::proofs::Laws::SignLaws::behind_bracket, tokens::proofs::Laws::SignLaws::behind_other))]
 pub fn bracket_at(text: &[u8], at: usize, k: u8, class: &[u8; 256]) -> Next
     requires { IsClassTable class.now × ((open_bracket ≤ k) × (k ≤ comma)) }
     ensures { result ≡ next_of_class k (token_at text.now at) }
@@ -70,6 +73,7 @@ pub fn bracket_at(text: &[u8], at: usize, k: u8, class: &[u8; 256]) -> Next
 }
 
 // Where the text continues after a token, if it is the sign of this class.
+#[tactic(auto, using(tokens::proofs::Tags::not_sign), unfolding(tokens::specs::Inner::Bounds::next_of_class))]
 fn next_if(t: Token, k: u8) -> Next
     requires { (ampersand ≤ k) × (k ≤ bar) }
     ensures { result ≡ next_of_class k t }
@@ -92,6 +96,7 @@ fn next_if(t: Token, k: u8) -> Next
 }
 
 // Where the text continues after the sign of this class, if that is the next token: `&&` or `and`, `||` or `or`.
+#[tactic(auto, using(tokens::proofs::Laws::SignLaws::behind_end, tokens::proofs::Laws::SignLaws::behind_sign, tokens::proofs::Laws::SignLaws::behind_word, tokens::proofs::Laws::SignLaws::behind_none))]
 pub fn sign_at(text: &[u8], at: usize, k: u8, class: &[u8; 256]) -> Next
     requires { IsClassTable class.now × ((ampersand ≤ k) × (k ≤ bar)) }
     ensures { result ≡ next_of_class k (token_at text.now at) }

@@ -50,6 +50,7 @@ pub enum Made {
 }
 
 // The store of a mode whose name is the front of an argument.
+#[tactic(auto, using(crate::proofs::Laws::GivenLaws::is_wrong, crate::proofs::Laws::GivenLaws::named_long, crate::proofs::Laws::GivenLaws::named_foreign, crate::proofs::Laws::GivenLaws::named_store))]
 fn name_tested(arg: &[u8], end: usize, mode: u8) -> Given
     requires { end ≤ length arg.now }
     ensures { Is arg.now result (named mode (take end arg.now)) }

@@ -131,6 +131,7 @@ fn all_at_most(s: &[u8], at: usize, n: usize, most: u8) -> bool
 }
 
 // Whether the bytes are a well-made table or list, with modes of at most `most`.
+#[tactic(auto, using(crate::proofs::Laws::StoresLaws::unmade_many, crate::proofs::Laws::StoresLaws::unmade_sum))]
 fn well_made(s: &[u8], most: u8) -> bool
     ensures { result ≡ well_made most s.now }
 {

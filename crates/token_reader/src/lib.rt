@@ -43,7 +43,7 @@ impl<'a> WordReader<'a> {
     }
 }
 
-// The first token from a position on, by a reader of the text that is moved there: its caller needs no walk by hand.
+// The first token from a position on, by a reader of the text that is moved there.
 pub fn token_from(text: &[u8], at: usize, class: &[u8; 256]) -> Token
     requires { IsClassTable class.now }
     ensures { result ≡ token_at text.now at }

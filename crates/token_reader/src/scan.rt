@@ -11,6 +11,7 @@ use slices::largest_from;
 use tokens::{Next, Scanned, Token, token_at};
 
 // Where the first foreign byte is, or the text's length.
+#[tactic(auto, using(tokens::proofs::Laws::ForeignLaws::none_foreign, slices::proofs::Laws::TextLaws::end_out, slices::proofs::Laws::TextLaws::end_stop, slices::proofs::Laws::TextLaws::end_on, ascii::proofs::Laws::TestLaws::is_not), unfolding(tokens::specs::Token::ascii))]
 pub fn foreign_at(text: &[u8], class: &[u8; 256]) -> usize
     requires { IsClassTable class.now }
     ensures { result ≡ run_end ascii text.now 0 }
@@ -29,6 +30,7 @@ pub fn foreign_at(text: &[u8], class: &[u8; 256]) -> usize
 }
 
 // What the last token says of the text.
+#[tactic(auto, using(tokens::proofs::Tags::not_fault))]
 fn last_of(t: Token) -> Scanned
     ensures { result ≡ last_of t }
 {
@@ -39,6 +41,7 @@ fn last_of(t: Token) -> Scanned
 }
 
 // The whole text for 4 to 6: the leftmost wins.
+#[tactic(auto, using(tokens::proofs::Laws::TokenLaws::goes_on, tokens::proofs::Laws::TokenLaws::scan_on, tokens::proofs::Laws::TokenLaws::scan_end))]
 pub fn scan(text: &[u8], class: &[u8; 256]) -> Scanned
     requires { IsClassTable class.now }
     ensures { result ≡ scan_of (tokens_from text.now 0) }

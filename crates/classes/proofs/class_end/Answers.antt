@@ -1,6 +1,5 @@
 -- `classes::class_end` meets its contract: while the bytes are of the class, the run ends where it did. Assumes nothing.
 use mathlib.Core.Path.{sym, ◌∙◌}
-use Prim.Native.Nat.{◌-◌}
 use native.Mathlib.Omega.{arith}
 use Rattle.slices.proofs.Laws.TextLaws.{end_out, end_stop, end_on}
 use Rattle.classes.proofs.Laws.ClassLaws.{of_class_lem, not_of_class}

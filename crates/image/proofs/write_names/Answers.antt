@@ -1,6 +1,5 @@
 -- `image::write_names` meets its contract: after i turns the first i bytes are written. Assumes nothing.
 use mathlib.Core.Path.{◌≡◌, refl}
-use Prim.Native.Nat.{◌-◌}
 use native.Mathlib.Omega.{arith}
 use Rattle.slices.proofs.Laws.WrittenLaws.{written_none, copied_on}
 use borrow.Author.Rules.{rules}

@@ -1,6 +1,5 @@
 -- `image::write_tags` meets its contract: after i turns the first i tags are written. Assumes nothing.
 use mathlib.Core.Path.{◌≡◌, refl, ◌∙◌}
-use Prim.Native.Nat.{◌-◌}
 use native.Mathlib.Omega.{arith}
 use Rattle.little_endian.specs.Bytes.{packed}
 use Rattle.slices.proofs.Laws.WrittenLaws.{written_none}

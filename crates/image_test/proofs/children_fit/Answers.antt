@@ -11,19 +11,19 @@ loop-at-init c = (omega arith, omega arith, left_all _ _ _ c.requires.0.ready)
 pub node_at-child-requires : goal.node_at-child-requires
 node_at-child-requires c = omega (arith, c.requires.0.within)
 
-pub returns-then-at-from : goal.returns-then-at-from
-returns-then-at-from c =
+pub returns-then-past : goal.returns-then-past
+returns-then-past c =
     left_no _ _ _ _ _ (cell_size _ _ _ c.node_at-child.ensures) (omega arith) c.loop-at.invariant.2 (omega arith)
 
 -- the size that the child says is that of a rule before it
-the-back : (c : After-node_at-child) → (0 < c.node_at-child.result.size) × (c.node_at-child.result.size ≤ c.loop-at.at)
-the-back c = left_back _ _ _ _ _ (cell_size _ _ _ c.node_at-child.ensures) (omega arith) c.loop-at.invariant.2
+the_back : (c : After-node_at-child) → (0 < c.node_at-child.result.size) × (c.node_at-child.result.size ≤ c.loop-at.at)
+the_back c = left_back _ _ _ _ _ (cell_size _ _ _ c.node_at-child.ensures) (omega arith) c.loop-at.invariant.2
 
-pub overflow_sub-at-in-loop-at-2 : goal.overflow_sub-at-in-loop-at-2
-overflow_sub-at-in-loop-at-2 c = (the-back (goal.at.overflow_sub-at-in-loop-at-2 c).After-node_at-child).1
+pub overflow_sub-at-in-loop-at : goal.overflow_sub-at-in-loop-at
+overflow_sub-at-in-loop-at c = (the_back (goal.at.overflow_sub-at-in-loop-at c).After-node_at-child).1
 
 pub loop-at-smaller : goal.loop-at-smaller
-loop-at-smaller c = omega (arith, the-back (goal.at.loop-at-smaller c).After-node_at-child)
+loop-at-smaller c = omega (arith, the_back (goal.at.loop-at-smaller c).After-node_at-child)
 
 pub loop-at-preserved : goal.loop-at-preserved
 loop-at-preserved c = (

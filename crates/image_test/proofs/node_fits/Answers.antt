@@ -21,9 +21,9 @@ the_join : (c : Joined-kind-gt-AT_LEAST) →
 the_join c =
     record { low = omega arith; high = omega arith; plain = elim c.if-kind-gt-AT_LEAST.branch [ then-kind-gt-AT_LEAST+else-arg-gt0 w ↦ omega arith | else-kind-gt-AT_LEAST w ↦ omega arith ] }
 
-pub returns-then-size-lt2 : goal.returns-then-size-lt2
-returns-then-size-lt2 c =
-    fits_bad_size _ _ _ c.node_at-node.ensures c.requires.0.ready (the_join (goal.at.returns-then-size-lt2 c).Joined-kind-gt-AT_LEAST) (omega arith)
+pub returns-then-small : goal.returns-then-small
+returns-then-small c =
+    fits_bad_size _ _ _ c.node_at-node.ensures c.requires.0.ready (the_join (goal.at.returns-then-small c).Joined-kind-gt-AT_LEAST) (omega arith)
 
 pub returns-then-i-size : goal.returns-then-i-size
 returns-then-i-size c =

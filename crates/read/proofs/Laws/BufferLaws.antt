@@ -9,7 +9,7 @@ use Rattle.refusals.specs.Refusals.{refusal, short_buffer}
 use Rattle.slices.specs.Text.{written}
 use Rattle.slices.proofs.Laws.WrittenLaws.{written_front}
 use Rattle.image.specs.Layout.{names_start}
-use Rattle.image.specs.Encode.{tags, args, names, image_of, encode}
+use Rattle.image.specs.Encode.{image_of, encode}
 use Rattle.image.proofs.Laws.EncodeLaws.{length_encode}
 use Rattle.grammar.specs.Reading.{Read, read_of}
 use Rattle.read.specs.Outcome.{outcome, reading_of, read_into}

@@ -109,9 +109,10 @@ unfolding answer_of expected run run_end part lower equal_by class_of of_class o
 rows_computed = refl
 
 -- each row holds
-each : (rs : List Example) → map answer_of rs ≡ map expected rs → (r : Example) → Memᴰ r rs → answer_of r ≡ expected r
-each rs e r (Memᴰ.head {x} {xs} q) = rw q (cc)
-each rs e r (Memᴰ.tail {x} {xs} m) = each xs (cc) r m
+each : (r : Example) (rs : List Example) → map answer_of rs ≡ map expected rs → Memᴰ r rs → answer_of r ≡ expected r
+each r [] e m = elim m [ ]
+each r (x ∷ xs) e (Memᴰ.head q) = rw q (cc)
+each r (x ∷ xs) e (Memᴰ.tail m) = each r xs (cc) m
 
 pub sheet : (r : Example) → Memᴰ r rows → answer_of r ≡ expected r
-sheet = each rows rows_computed
+sheet r m = each r rows rows_computed m

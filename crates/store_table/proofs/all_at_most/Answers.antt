@@ -1,6 +1,5 @@
 -- `store_table::all_at_most` meets its contract: after k bytes that pass, those that are left are tested as all. Assumes nothing.
 use mathlib.Core.Path.{refl, sym, ◌∙◌}
-use Prim.Native.Nat.{◌-◌}
 use native.Mathlib.Omega.{arith}
 use Rattle.store_table.proofs.Laws.PartLaws.{most_end, most_on, most_off}
 use Rattle.store_table.proofs.all_at_most.Goals as goal

@@ -1,6 +1,5 @@
 -- `store_table::same_from` meets its contract: what is left of both names compares as all from the position on. Assumes nothing.
 use mathlib.Core.Path.{sym, ◌∙◌}
-use Prim.Native.Nat.{◌-◌}
 use native.Mathlib.Omega.{arith}
 use borrow.Author.Tests.{eq-eqb, ne_eqb}
 use Rattle.ascii.proofs.Laws.LettersLaws.{equal_end, equal_on, equal_off}

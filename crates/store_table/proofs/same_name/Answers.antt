@@ -1,6 +1,5 @@
 -- `store_table::same_name` meets its contract: what is left of both names compares as the whole. Assumes nothing.
 use mathlib.Core.Path.{refl, sym, ◌∙◌}
-use Prim.Native.Nat.{◌-◌}
 use native.Mathlib.Omega.{arith}
 use lib.ListN.{length}
 use Rattle.little_endian.specs.Bytes.{le_at}

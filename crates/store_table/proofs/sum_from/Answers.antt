@@ -1,5 +1,4 @@
 -- `store_table::sum_from` meets its contract: after k bytes the sum so far and the sum of those that are left make the whole. Assumes nothing.
-use Prim.Native.Nat.{◌-◌}
 use native.Mathlib.Omega.{arith}
 use Rattle.store_table.proofs.Laws.PartLaws.{sum_end, sum_on}
 use Rattle.store_table.proofs.sum_from.Goals as goal

@@ -1,6 +1,6 @@
 -- `durations::duration::decimal_of` meets its contract: the digits left, read after the number so far, write the number, so it
 use mathlib.Core.Path.{refl, sym, ◌∙◌}
-use Prim.Native.Nat.{◌-◌}
+use Prim.Native.Nat.{◌+◌, ◌*◌}
 use native.Mathlib.Omega.{arith}
 use Rattle.ascii.specs.Letters.{is_digit}
 use Rattle.slices.proofs.Laws.TextLaws.{end_on, run_in}
@@ -33,7 +33,9 @@ loop-i-preserved c =
 pub overflow_add-value : goal.overflow_add-value
 overflow_add-value c =
     let p = c.requires in
-    omega (arith, head_small _ _ p.1.1.1 p.1.1.0 _ _ (let l = c.loop-i in let d = digit-of-requires c.before c.digit_of.lifetimes in (omega arith, (sym (end_on _ _ l.i (omega arith) d) ∙ l.invariant.1.0, rw c.digit_of.ensures (sym (decimal_on l.value _ l.i _ (omega arith) (omega arith)) ∙ l.invariant.1.1)))).1.1)
+    let l = c.loop-i in
+    let on = decimal_on l.value c.args.word.now l.i c.args.to (omega arith) (omega arith) in
+    omega (arith, head_small _ _ p.1.1.1 p.1.1.0 (l.value * 10 + c.digit_of.result) (l.i + 1) (rw c.digit_of.ensures (sym on ∙ l.invariant.1.1)))
 
 pub returns : goal.returns
 returns c =

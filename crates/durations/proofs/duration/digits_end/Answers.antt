@@ -1,6 +1,5 @@
 -- `durations::duration::digits_end` meets its contract: while the bytes are digits, the run ends where it did. Assumes nothing.
 use mathlib.Core.Path.{sym, ◌∙◌, ap}
-use Prim.Native.Nat.{◌-◌}
 use native.Mathlib.Omega.{arith}
 use Rattle.slices.proofs.Laws.TextLaws.{end_out, run_stop, run_on}
 use mathlib.Core.Bool.{not}

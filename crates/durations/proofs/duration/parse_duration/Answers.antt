@@ -1,7 +1,5 @@
 -- `durations::duration::parse_duration` meets its contract: the parts so far and those of the later units make up the duration. Assumes nothing.
 use mathlib.Core.Path.{◌≡◌, sym, ◌∙◌}
-use mathlib.Core.Logic.{⊎_elim}
-use Prim.Native.Nat.{◌-◌}
 use native.Mathlib.Omega.{arith}
 use Rattle.slices.proofs.Laws.TextLaws.{end_within}
 use Rattle.durations.specs.Duration.{part_at}
@@ -9,7 +7,7 @@ use Rattle.durations.specs.Inner.Units.{unit_at}
 use Rattle.durations.proofs.Laws.DurationLaws.{part_small, part_within, parts_start, parts_skip, parts_last, parts_on, parts_end}
 use Rattle.durations.specs.declared.duration.Part.{Part}
 use Rattle.durations.proofs.duration.parse_duration.Goals as goal
-use Rattle.durations.proofs.duration.parse_duration.Goals.{After-part_at}
+use Rattle.durations.proofs.duration.parse_duration.Goals.{After-part_at, in-Of+else-word-next, in_default}
 
 pub loop-rank-init : goal.loop-rank-init
 loop-rank-init c =
@@ -35,17 +33,17 @@ pub loop-rank-preserved : goal.loop-rank-preserved
 loop-rank-preserved c =
     let l = c.loop-rank in
     let h = c.loop-rank-test.true in
-    ⊎_elim
-    (λ w.
-    let q = read (goal.at.loop-rank-preserved c).After-part_at w.1.given.1 in
-    rw (w.4, w.5) (
-      part_within (unit_at l.rank) _ l.at q l.invariant.0,
-      (omega (arith, part_small l.rank _ l.at q), sym (parts_on l.total _ l.at l.rank h q w.3.left) ∙ l.invariant.1.1),
-    ))
-    (λ w.
-    rw (w.2, w.3)
-    (l.invariant.0, (omega arith, sym (parts_skip l.total _ l.at l.rank h (read (goal.at.loop-rank-preserved c).After-part_at w.1.given.1)) ∙ l.invariant.1.1)))
-    c.match-part_at.branch
+    elim c.match-part_at.branch [
+      | in-Of+else-word-next w ↦
+          (let q = read (goal.at.loop-rank-preserved c).After-part_at w.in-Of.is in
+          rw (w.at-is, w.total-is) (
+            part_within (unit_at l.rank) _ l.at q l.invariant.0,
+            (omega (arith, part_small l.rank _ l.at q), sym (parts_on l.total _ l.at l.rank h q w.if-word-next.false) ∙ l.invariant.1.1),
+          ))
+      | in_default w ↦
+          rw (w.at-is, w.total-is)
+          (l.invariant.0, (omega arith, sym (parts_skip l.total _ l.at l.rank h (read (goal.at.loop-rank-preserved c).After-part_at w.in_default.is)) ∙ l.invariant.1.1))
+    ]
 
 pub returns : goal.returns
 returns c = let l = c.loop-rank in sym (parts_end l.total _ l.at l.rank c.loop-rank-test.false) ∙ l.invariant.1.1

@@ -2,7 +2,7 @@
 use mathlib.Core.Path.{◌≡◌, sym, ap, ◌∙◌}
 use Prim.Native.Nat.{◌≤◌}
 use native.Mathlib.Omega.{arith}
-use lib.ListN.{length, length-map}
+use lib.ListN.{length}
 use lib.Seq.{length-take-le}
 use Rattle.ascii.specs.Letters.{equal}
 use Rattle.slices.specs.Text.{part}
@@ -10,7 +10,7 @@ use Rattle.slices.proofs.Laws.TextLaws.{end_within}
 use Rattle.durations.specs.Inner.Units.{unit_at}
 use Rattle.durations.proofs.Laws.DurationLaws.{amount_small, part_none, part_long, part_other, part_found}
 use Rattle.durations.proofs.duration.part_at.Goals as goal
-use Rattle.durations.proofs.duration.part_at.Goals.{After-eq, After-time_unit-unit, After-unit_end-end}
+use Rattle.durations.proofs.duration.part_at.Goals.{After-eq, After-unit_end-end}
 
 pub returns-then-digits-at : goal.returns-then-digits-at
 returns-then-digits-at c = sym (part_none _ _ _ c.digits_end-digits.ensures c.if-digits-at.true)
@@ -42,17 +42,11 @@ slice_bounds-eq-start c = (ends (goal.at.slice_bounds-eq-start c).After-unit_end
 pub slice_bounds-eq-end : goal.slice_bounds-eq-end
 slice_bounds-eq-end c = (ends (goal.at.slice_bounds-eq-end c).After-unit_end-end).3
 
--- a unit's name is within its array, which has two elements
-in-name : (c : After-time_unit-unit) → c.time_unit-unit.result.len ≤ length c.time_unit-unit.result.name
-in-name c =
-    let two = sym (length-map c.time_unit-unit.result.name (λ b. b)) ∙ c.time_unit-unit.type-inv.1.1.0.1.0.1 in
-    omega (arith, c.time_unit-unit.ensures.len)
-
 pub slice_bounds-name-end : goal.slice_bounds-name-end
-slice_bounds-name-end c = in-name (goal.at.slice_bounds-name-end c).After-time_unit-unit
+slice_bounds-name-end c = omega (arith, c.time_unit-unit.ensures.len)
 
 pub slice_bounds-eq-end-2 : goal.slice_bounds-eq-end-2
-slice_bounds-eq-end-2 c = sym (length-take-le _ _ (in-name (goal.at.slice_bounds-eq-end-2 c).After-time_unit-unit))
+slice_bounds-eq-end-2 c = sym (length-take-le _ _ (omega (arith, c.time_unit-unit.ensures.len)))
 
 -- what is compared is the name in the word and the unit's
 named : (c : After-eq) →

@@ -14,7 +14,7 @@ use Rattle.print_text.specs.Print.{text_of}
 use Rattle.print_text.proofs.Laws.ChildrenLaws.{walks_start, Turn, turn, walks_next, walks_done, leaf_text_lem}
 use Rattle.print_text.proofs.Laws.PrependLaws.{pieces_room, child_room, put_start}
 use Rattle.print.proofs.put.+put_rule.Goals as goal
-use Rattle.print.proofs.put.+put_rule.Goals.{After-node_at-child, After-is_leaf-in-loop-stop, Joined-is_leaf-2, then-is_leaf-2, else-is_leaf-2}
+use Rattle.print.proofs.put.+put_rule.Goals.{After-node_at-child, Joined-is_leaf-2, then-is_leaf-2, else-is_leaf-2}
 
 -- at entry there is a node, and the last one is within the image
 the_node : {s : List ℕ} {n from k : ℕ} → ValidSubtree s n from k → (0 < k) × (from + k ≤ n)

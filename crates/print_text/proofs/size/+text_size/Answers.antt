@@ -12,7 +12,7 @@ use Rattle.print_text.specs.Print.{text_of}
 use Rattle.print_text.specs.Inner.Pieces.{opening_of_of}
 use Rattle.print_text.proofs.Laws.ChildrenLaws.{TextWalks, walks_start, Turn, turn, turn_room, walks_next, walks_done, leaf_text_lem, text_short}
 use Rattle.print_text.proofs.size.+text_size.Goals as goal
-use Rattle.print_text.proofs.size.+text_size.Goals.{After-around_size-total, After-leaf_size-total, After-text_size-total}
+use Rattle.print_text.proofs.size.+text_size.Goals.{After-around_size-total, After-leaf_size-total}
 
 -- at entry there is a node, and the last one is within the image
 the_node : {s : List ℕ} {n from k : ℕ} → ValidSubtree s n from k → (0 < k) × (from + k ≤ n)

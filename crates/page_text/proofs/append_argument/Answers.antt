@@ -1,0 +1,31 @@
+-- `page_text::append_argument` meets its contract: five parts in a row. Assumes nothing.
+use mathlib.Core.List.{append_assoc}
+use Prim.Native.Nat.{◌≤◌}
+use native.Mathlib.Omega.{arith}
+use lib.ListN.{length}
+use Rattle.slices.proofs.Laws.WrittenLaws.{written_at_after}
+use Rattle.decimal.proofs.Laws.DigitsLaws.{digits_short}
+use Rattle.page_text.proofs.Laws.PageLaws.{fault_short}
+use Rattle.page_text.proofs.append_argument.Goals as goal
+
+pub append-colon_end-requires : goal.append-colon_end-requires
+append-colon_end-requires c =
+    omega (arith, digits_short c.args.index)
+
+pub append_fault-fault_end-requires : goal.append_fault-fault_end-requires
+append_fault-fault_end-requires c =
+    omega (arith, digits_short c.args.index)
+
+pub append-requires : goal.append-requires
+append-requires c =
+    let a = c.args in
+    omega (arith, digits_short a.index, fault_short a.fault)
+
+pub returns : goal.returns
+returns c =
+    let h : 0 ≤ length c.args.page.now = omega arith in
+    simp append_assoc
+    at (written_at_after h
+    (written_at_after h
+    (written_at_after h (written_at_after h c.append-word_end.ensures c.append_digits-number_end.ensures) c.append-colon_end.ensures) c.append_fault-fault_end.ensures)
+    c.append.ensures)
