@@ -22,13 +22,15 @@ fn test_grade(kind: u32, arg: u64) -> u8
 {
     match kind {
         image::OLDER_THAN => {
-            if arg <= OLDEST {
+            let old = arg <= OLDEST;
+            if old {
                 return 2;
             }
             0
         }
         image::READABLE => {
-            if arg <= 0 {
+            let met = arg <= 0;
+            if met {
                 return 2;
             }
             0
