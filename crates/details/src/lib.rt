@@ -45,7 +45,8 @@ pub fn append_node(page: &mut [u8], at: usize, text: &[u8], index: usize) -> usi
     let node = node_at(written, n, index);
     let kind = node.kind;
     let arg = node.arg;
-    if kind == image::NAMED {
+    let named = kind == image::NAMED;
+    if named {
         return append_shown(page, at, name_of(written, n, arg));
     }
     at

@@ -21,7 +21,8 @@ pub fn report(text: &[u8], args: &[u8], page: &mut [u8]) -> usize
     if page.len() < PAGE_BYTES {
         return 0;
     }
-    if 64 < count_args(args) {
+    let many = 64 < count_args(args);
+    if many {
         return append(page, 0, b"more than 64 stores are given\n");
     }
     let mut table = [0u8; TABLE_BYTES];

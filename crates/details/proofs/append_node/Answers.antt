@@ -55,9 +55,9 @@ append_shown-requires c =
     rw c.name_of.ensures
     (simp length-take (omega (arith, taken_short (the_rule (goal.at.append_shown-requires c).In-Read), name_within (goal.at.append_shown-requires c).After-node_at-node (search rules))))
 
-pub returns-then-kind-eq-NAMED : goal.returns-then-kind-eq-NAMED
-returns-then-kind-eq-NAMED c =
-    rw (name_here (the_rule (goal.at.returns-then-kind-eq-NAMED c).In-Read)
+pub returns-then-named : goal.returns-then-named
+returns-then-named c =
+    rw (name_here (the_rule (goal.at.returns-then-named c).In-Read)
     c.node_count-n.ensures.0 c.node_at-node.ensures
     c.if-n-index.false (search rules) c.name_of.ensures)
     c.append_shown.ensures

@@ -12,16 +12,16 @@ use Rattle.page.proofs.report.Goals.{In-Table}
 pub returns-then-page-lt-PAGE_BYTES : goal.returns-then-page-lt-PAGE_BYTES
 returns-then-page-lt-PAGE_BYTES c = rw (← page_short _ _ _ c.if-page-lt-PAGE_BYTES.true) (written_at_none _ 0)
 
-pub returns-then-count_args-gt64 : goal.returns-then-count_args-gt64
-returns-then-count_args-gt64 c =
+pub returns-then-many : goal.returns-then-many
+returns-then-many c =
     let s = c.args in
-    rw (← page_many s.text.now s.args.now s.page.now (omega arith) (omega (arith, c.count_args.ensures))) c.append.ensures
+    rw (← page_many s.text.now s.args.now s.page.now (omega arith) (omega (arith, c.count_args-many.ensures))) c.append.ensures
 
 -- the table that the arguments make
 the_table : (c : In-Table) →
     Given c.args.args.now c.table_of.new.table c.in-Table.size
 the_table c =
-    given (omega (arith, c.count_args.ensures)) c.table_of.ensures c.in-Table.is
+    given (omega (arith, c.count_args-many.ensures)) c.table_of.ensures c.in-Table.is
 
 pub slice_bounds-table-end : goal.slice_bounds-table-end
 slice_bounds-table-end c = (the_table (goal.at.slice_bounds-table-end c).In-Table).within
@@ -39,7 +39,7 @@ returns-in-Table c =
     let s = c.args in
     rw
     (← page_judged s.text.now s.args.now s.page.now (omega (arith, c.if-page-lt-PAGE_BYTES.false))
-    (omega (arith, c.count_args.ensures)) (the_table (goal.at.returns-in-Table c).In-Table) c.judge.ensures.0)
+    (omega (arith, c.count_args-many.ensures)) (the_table (goal.at.returns-in-Table c).In-Table) c.judge.ensures.0)
     c.append_judged.ensures
 
 pub returns-in-Wrong : goal.returns-in-Wrong
@@ -47,6 +47,6 @@ returns-in-Wrong c =
     let s = c.args in
     rw
     (← page_wrong s.text.now s.args.now s.page.now (omega (arith, c.if-page-lt-PAGE_BYTES.false))
-    (omega (arith, c.count_args.ensures))
+    (omega (arith, c.count_args-many.ensures))
     (c.table_of.ensures.bad _ _ c.in-Wrong.is))
     c.append_argument.ensures
