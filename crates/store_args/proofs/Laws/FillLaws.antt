@@ -17,7 +17,7 @@ use Rattle.store_args.proofs.Laws.SplitLaws.{ArgumentWalk, walk_start, walk_in, 
 use Rattle.store_args.specs.declared.Fault.{Fault}
 use Rattle.store_args.specs.declared.One.{One}
 use Rattle.store_args.specs.declared.One.TheVariants.{Used}
-use Rattle.store_args.specs.declared.Filled.TheVariants.{Stores as All, Wrong as First}
+use Rattle.store_args.specs.declared.Filled.TheVariants.{Stores as AllStores, Wrong as First}
 
 -- ---- one store more
 joined_one : (es : List Entry) (e : Entry) → joined (es ++ (e ∷ [])) ≡ joined es ++ e.name
@@ -75,7 +75,7 @@ fill_start args a =
     }
 
 module _ {args : List ℕ} {a : StoreArrays} {k at used : ℕ} (f : Filling args a k at used) where
-  pub fill_end : length args ≤ at → FilledBy (stores_in args) a (All k used)
+  pub fill_end : length args ≤ at → FilledBy (stores_in args) a (AllStores k used)
   unfolding stores_from
   fill_end h =
       record {

@@ -16,7 +16,7 @@ use Rattle.store_args.proofs.Laws.ArgumentsLaws.{stores_fit, stores_many}
 use Rattle.store_args.specs.Inner.Filling.{StoreArrays, Hold, FilledBy, MadeOf}
 use Rattle.store_args.specs.declared.Fault.{Fault}
 use Rattle.store_args.specs.declared.Filled.{Filled}
-use Rattle.store_args.specs.declared.Filled.TheVariants.{Stores as All, Wrong as First}
+use Rattle.store_args.specs.declared.Filled.TheVariants.{Stores as AllStores, Wrong as First}
 use Rattle.store_args.specs.declared.Made.TheVariants.{Table, Wrong as Bad}
 
 -- the five parts of the table
@@ -34,7 +34,7 @@ module _ {s : Stores} {a : StoreArrays} {r : Filled} (f : FilledBy s a r) where
       }
 
   -- the parts follow one another
-  pub made_table : {count used m l n : ℕ} (t : List ℕ) {t₁ t₂ t₃ t₄ t₅ : List ℕ} → r ≡ All count used →
+  pub made_table : {count used m l n : ℕ} (t : List ℕ) {t₁ t₂ t₃ t₄ t₅ : List ℕ} → r ≡ AllStores count used →
       t₁ ≡ written t count_start (le_bytes 2 count) → t₂ ≡ written t₁ total_start (le_bytes 2 used) →
       WrittenAt t₂ t₃ modes_start m (take count a.modes) → WrittenAt t₃ t₄ m l (take count a.lengths) →
       WrittenAt t₄ t₅ l n (take used a.names) → n ≤ length t₅ → MadeOf s t₅ (Table n)
@@ -52,7 +52,7 @@ module _ {s : Stores} {a : StoreArrays} {r : Filled} (f : FilledBy s a r) where
 
 -- a table and its arrays have room for 64 stores
 pub made_room : (args : List ℕ) {a : StoreArrays} {r : Filled} {count used : ℕ} → FilledBy (stores_in args) a r →
-    r ≡ All count used → length (arguments_in args) ≤ 64 → (count ≤ 64) × (used ≤ 16_320)
+    r ≡ AllStores count used → length (arguments_in args) ≤ 64 → (count ≤ 64) × (used ≤ 16_320)
 made_room args {a} {r} {count} {used} f q h =
     let t = f.filled count used q in
     let es = t.0 in

@@ -11,7 +11,7 @@ use Rattle.store_args.specs.declared.Given.TheVariants.{Store, Wrong}
 use Rattle.store_args.specs.declared.One.{One}
 use Rattle.store_args.specs.declared.One.TheVariants.{Used, Wrong as Amiss}
 use Rattle.store_args.specs.declared.Filled.{Filled}
-use Rattle.store_args.specs.declared.Filled.TheVariants.{Stores as All, Wrong as First}
+use Rattle.store_args.specs.declared.Filled.TheVariants.{Stores as AllStores, Wrong as First}
 use Rattle.store_args.specs.declared.Made.{Made}
 use Rattle.store_args.specs.declared.Made.TheVariants.{Table, Wrong as Bad}
 
@@ -55,7 +55,7 @@ pub record Hold (es : List Entry) (count used : ℕ) (a : StoreArrays) : Type 0 
   pub ends : used ≡ length (table.joined es)
 
 pub record FilledBy (s : Stores) (a : StoreArrays) (r : Filled) : Type 0 where
-  pub filled : (count used : ℕ) → r ≡ All count used → (es : List Entry) × ((s ≡ stores es) × Hold es count used a)
+  pub filled : (count used : ℕ) → r ≡ AllStores count used → (es : List Entry) × ((s ≡ stores es) × Hold es count used a)
   pub bad : (i : ℕ) (f : Fault) → r ≡ First i f → s ≡ wrong_at i f
 
 -- the table's bytes are at the front of the buffer
