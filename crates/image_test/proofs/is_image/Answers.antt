@@ -25,9 +25,9 @@ returns-then-image-start c =
     not_sized _ _ _ c.node_count-n.ensures.0 c.name_byte_count-m.ensures.0 (omega arith)
 
 -- past the first tests the lengths are an image's
-the-head : (c : Else-image-start) →
+the_head : (c : Else-image-start) →
     Headed c.args.image.now c.node_count-n.result c.name_byte_count-m.result
-the-head c =
+the_head c =
     record {
       nodes = c.node_count-n.ensures.0;
       bytes = c.name_byte_count-m.ensures.0;
@@ -35,22 +35,22 @@ the-head c =
     }
 
 -- the answer is that of the bytes from where the names begin
-the-ascii : (c : After-ascii_from) →
+the_ascii : (c : After-ascii_from) →
     all_ascii (drop (names_start c.node_count-n.result) c.args.image.now) ≡ c.ascii_from.result
-the-ascii c = rw (← c.names_start-start.ensures) (sym c.ascii_from.ensures)
+the_ascii c = rw (← c.names_start-start.ensures) (sym c.ascii_from.ensures)
 
 pub returns-then-not-ascii_from : goal.returns-then-not-ascii_from
 returns-then-not-ascii_from c =
-    not_ascii (the-head (goal.at.returns-then-not-ascii_from c).Else-image-start) (the-ascii (goal.at.returns-then-not-ascii_from c).After-ascii_from ∙ c.if-not-ascii_from.true)
+    not_ascii (the_head (goal.at.returns-then-not-ascii_from c).Else-image-start) (the_ascii (goal.at.returns-then-not-ascii_from c).After-ascii_from ∙ c.if-not-ascii_from.true)
 
 pub returns-then-not-names_run : goal.returns-then-not-names_run
 returns-then-not-names_run c =
-    not_named (the-head (goal.at.returns-then-not-names_run c).Else-image-start)
-    (the-ascii (goal.at.returns-then-not-names_run c).After-ascii_from ∙ c.if-not-ascii_from.false) (sym c.names_run.ensures ∙ c.if-not-names_run.true)
+    not_named (the_head (goal.at.returns-then-not-names_run c).Else-image-start)
+    (the_ascii (goal.at.returns-then-not-names_run c).After-ascii_from ∙ c.if-not-ascii_from.false) (sym c.names_run.ensures ∙ c.if-not-names_run.true)
 
 pub returns : goal.returns
 returns c =
     c.nodes_fit.ensures
-    ∙ all_tests (the-head (goal.at.returns c).Else-image-start)
-    (the-ascii (goal.at.returns c).After-ascii_from ∙ c.if-not-ascii_from.false)
+    ∙ all_tests (the_head (goal.at.returns c).Else-image-start)
+    (the_ascii (goal.at.returns c).After-ascii_from ∙ c.if-not-ascii_from.false)
     (sym c.names_run.ensures ∙ c.if-not-names_run.false)
