@@ -36,6 +36,8 @@ FIRST = [
     ('crates/details/proofs/append_node/Proof.antt', 'name_in', 'name_within'),
     ('crates/image/proofs/Laws/RoundTripLaws.antt', 'node_at', 'node_found'),
     ('crates/image/proofs/Laws/FitLaws.antt', 'is_leaf', 'leaf_meant'),
+    ('crates/print_text/proofs/Laws/PiecesLaws.antt', 'opening_of', 'opening_of_lem'),
+    ('crates/print_text/proofs/Laws/ChildrenLaws.antt', 'opening_of', 'opening_of_lem'),
     ('crates/answers/proofs/Laws/OutcomeLaws.antt', 'read_answer', 'reading_answer'),
     ('crates/prune/proofs/prune_read/Proof.antt', 'read_answer', 'reading_answer'),
 ]
@@ -95,7 +97,7 @@ def turned():
     for path in antt():
         used |= set(TOKEN.findall(PATH.sub('', blank(first(path)))))
     # the functions of the source that definitions are named after, which stand in goals and paths
-    used -= {'is_digit', 'sign_at', 'given_by', 'is_leaf', 'node_at'}
+    used -= {'is_digit', 'sign_at', 'given_by', 'is_leaf', 'node_at', 'place_of', 'opening_of'}
     plan, taken = {}, {}
     # definitions first, so that a lemma gives way
     for name in sorted(old, key=lambda n: ('-' in n, n)):

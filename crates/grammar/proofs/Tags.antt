@@ -9,7 +9,7 @@ use types.Run.{OneOf, miss}
 use denote.Enum.Declared.{tag_of}
 use Rattle.refusals.specs.Refusals.{no_expression}
 use Rattle.tokens.specs.contracts.Token.{the_type}
-use Rattle.tokens.specs.Token.{place_of_of, token_at, tokens_from}
+use Rattle.tokens.specs.Token.{place_of, token_at, tokens_from}
 use Rattle.tokens.specs.declared.Token.{Token}
 use Rattle.tokens.specs.declared.Token.TheVariants.{End, Open, Close, Comma, And, Or, Word, Fault}
 use Rattle.grammar.specs.Grammar.{token_kind, missing, after, other_token, expected_word, refuse, primary_start}
@@ -41,7 +41,7 @@ not_kind ks k h t o e = miss ks k h (subst (OneOf ks) (tag_kind_lem t ∙ e) o)
 
 -- the token at a position is no word, is not this sign, is neither a comma nor a closing bracket, begins no primary
 module _ (s : List ℕ) (at : ℕ) {t : Token} (e : t ≡ token_at s at) where
-  pub no_word : OneOf (others 6) (tag_of the_type t) → expected_word s (tokens_from s at) ≡ other_token (place_of_of t)
+  pub no_word : OneOf (others 6) (tag_of the_type t) → expected_word s (tokens_from s at) ≡ other_token (place_of t)
   no_word o = word_missing s at (sym e) (not_kind (others 6) 6 tt t o)
 
   pub no_sign : (k : ℕ) → T (not (has_key (others k) k)) → OneOf (others k) (tag_of the_type t) → after k (tokens_from s at) ≡ missing
@@ -53,7 +53,7 @@ module _ (s : List ℕ) (at : ℕ) {t : Token} (e : t ≡ token_at s at) where
       let ks = without comma (others close_bracket) in
       (after_off s at (sym e) comma (not_kind ks comma tt t o), after_off s at (sym e) close_bracket (not_kind ks close_bracket tt t o))
 
-  pub no_primary : (d : ℕ) → OneOf (without open_bracket (others 6)) (tag_of the_type t) → primary_start s d (tokens_from s at) ≡ refuse no_expression (place_of_of t)
+  pub no_primary : (d : ℕ) → OneOf (without open_bracket (others 6)) (tag_of the_type t) → primary_start s d (tokens_from s at) ≡ refuse no_expression (place_of t)
   no_primary d o =
       let ks = without open_bracket (others 6) in
       head_none s d at (sym e) (not_kind ks open_bracket tt t o) (not_kind ks 6 tt t o)

@@ -7,7 +7,7 @@ use Rattle.refusals.specs.declared.Refusal.{Refusal}
 use Rattle.refusals.specs.Refusals.{refusal, no_expression, bracket_expected, unknown_function, missing_argument, bad_count, bad_duration, empty_list, too_deep}
 use Rattle.tokens.specs.declared.Token.{Token}
 use Rattle.tokens.specs.declared.Token.TheVariants.{End, Open, Close, Comma, And, Or, Word, Fault}
-use Rattle.tokens.specs.Token.{place_of_of}
+use Rattle.tokens.specs.Token.{place_of}
 use Rattle.decimal.specs.declared.Parsed.{Parsed}
 use Rattle.decimal.specs.declared.Parsed.TheVariants.{Value, Invalid}
 use Rattle.decimal.specs.Count.{count_of}
@@ -43,7 +43,7 @@ after k (t ∷ ts) = cond (eqb (token_kind t) k) (rest ts) missing
 -- "the first byte of the token found, or the text length if none"
 unfoldable pub first_place : List Token → ℕ
 first_place [] = 0
-first_place (t ∷ ts) = place_of_of t
+first_place (t ∷ ts) = place_of t
 
 -- ---- how a primary begins
 

@@ -5,7 +5,7 @@ ghost use Rattle.std.specs.Prelude.{◌≡◌, ◌≤◌, length};
 ghost use Rattle.slices.specs.Text.{WrittenAt};
 ghost use Rattle.image.specs.Kinds.{named_kind};
 ghost use Rattle.image.specs.Inner.Subtree.{NameInside};
-ghost use Rattle.print_text.specs.Inner.Pieces.{leaf_in, opening_of_of, after_child_of, back_of, front_of};
+ghost use Rattle.print_text.specs.Inner.Pieces.{leaf_in, opening_of, after_child_of, back_of, front_of};
 
 use decimal::digits::prepend_digits;
 use duration_text::format_duration;
@@ -45,8 +45,8 @@ pub fn prepend_leaf(
 
 // What comes before a combinator's children.
 pub fn prepend_opening(kind: u32, arg: u64, text: &mut [u8], end: usize) -> usize
-    requires { (length (opening_of_of kind arg) ≤ end) × (end ≤ length text.old) }
-    ensures { WrittenAt text.old text.new result end (opening_of_of kind arg) }
+    requires { (length (opening_of kind arg) ≤ end) × (end ≤ length text.old) }
+    ensures { WrittenAt text.old text.new result end (opening_of kind arg) }
 {
     match kind {
         image::AT_LEAST => {

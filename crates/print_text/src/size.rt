@@ -6,7 +6,7 @@ ghost use Rattle.image.specs.Kinds.{named_kind};
 ghost use Rattle.image.specs.Decode.{cell_at};
 ghost use Rattle.image.specs.Inner.EncodedAt.{EncodedAt};
 ghost use Rattle.image.specs.Inner.Subtree.{ValidSubtree, NameInside};
-ghost use Rattle.print_text.specs.Inner.Pieces.{bracketed_of, leaf_in, opening_of_of, after_child_of, front_of, back_of};
+ghost use Rattle.print_text.specs.Inner.Pieces.{bracketed_of, leaf_in, opening_of, after_child_of, front_of, back_of};
 ghost use Rattle.print_text.specs.Print.{text_of};
 
 use decimal::digits::digit_count;
@@ -36,7 +36,7 @@ fn leaf_size(image: &[u8], n: usize, kind: u32, arg: u64) -> usize
 
 // The bytes before a combinator's children.
 fn opening_size(kind: u32, arg: u64) -> usize
-    ensures { result ≡ length (opening_of_of kind arg) }
+    ensures { result ≡ length (opening_of kind arg) }
 {
     match kind {
         image::AT_LEAST => 11 + digit_count(arg),

@@ -4,7 +4,7 @@
 ghost use Rattle.std.specs.Prelude.{◌≡◌, ◌≤◌};
 ghost use Rattle.classes.specs.Class.{open_bracket, comma, ampersand, bar};
 ghost use Rattle.classes.specs.Inner.ClassTable.{IsClassTable};
-ghost use Rattle.tokens.specs.Token.{next_of, place_of_of, token_at};
+ghost use Rattle.tokens.specs.Token.{next_of, place_of, token_at};
 ghost use Rattle.tokens.specs.Inner.Bounds.{next_of_class};
 
 use classes::{class_at, class_end};
@@ -34,9 +34,9 @@ pub fn next_of(t: Token) -> Next
 }
 
 // The place of a token: its first byte; of the end, the text's length.
-#[tactic(auto, unfolding(tokens::specs::Token::place_of_of))]
+#[tactic(auto, unfolding(tokens::specs::Token::place_of))]
 pub fn place_of(t: Token) -> usize
-    ensures { result ≡ place_of_of t }
+    ensures { result ≡ place_of t }
 {
     match t {
         Token::End { place } => place,

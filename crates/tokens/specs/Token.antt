@@ -73,15 +73,15 @@ next_of (Word p a b q n) = To n
 next_of (Fault f) = Off
 
 -- "the first byte of the token found, or the text length if none"; "a quoted word begins at its mark"
-unfoldable pub place_of_of : Token → ℕ
-place_of_of (End p) = p
-place_of_of (Open p n) = p
-place_of_of (Close p n) = p
-place_of_of (Comma p n) = p
-place_of_of (And p n) = p
-place_of_of (Or p n) = p
-place_of_of (Word p a b q n) = p
-place_of_of (Fault f) = f.place
+unfoldable pub place_of : Token → ℕ
+place_of (End p) = p
+place_of (Open p n) = p
+place_of (Close p n) = p
+place_of (Comma p n) = p
+place_of (And p n) = p
+place_of (Or p n) = p
+place_of (Word p a b q n) = p
+place_of (Fault f) = f.place
 
 -- a token, and those that `more` gives from there on
 abbrev pub onward : Token → Next → (ℕ → List Token) → List Token

@@ -6,7 +6,7 @@ use Rattle.refusals.specs.declared.Refusal.{Refusal}
 use Rattle.refusals.specs.Refusals.{refusal, bracket_expected, empty_list}
 use Rattle.tokens.specs.declared.Next.{Next}
 use Rattle.tokens.specs.declared.Next.TheVariants.{Off, To}
-use Rattle.tokens.specs.Token.{place_of_of, token_at}
+use Rattle.tokens.specs.Token.{place_of, token_at}
 use Rattle.tokens.specs.Inner.Bounds.{next_of_class}
 use Rattle.rules.specs.Rule.{Join}
 use Rattle.nodes.specs.declared.ParseEnd.{ParseEnd}
@@ -31,7 +31,7 @@ closed_by (To next) p n m = Done next n m
 closed_by Off p n m = Refused (refusal bracket_expected p)
 
 abbrev pub group_end : List ℕ → ℕ → ℕ → ℕ → ParseEnd
-group_end s at n m = closed_by (next_of_class close_bracket (token_at s at)) (place_of_of (token_at s at)) n m
+group_end s at n m = closed_by (next_of_class close_bracket (token_at s at)) (place_of (token_at s at)) n m
 
 -- a list's first argument, by what follows a closing bracket
 abbrev pub first_by : Next → ℕ → ℕ → ℕ → ℕ → Argument

@@ -13,7 +13,7 @@ use Rattle.tokens.specs.declared.Token.{Token}
 use Rattle.tokens.specs.declared.Token.TheVariants.{End, Open, Close, Comma, And, Or, Word, Fault}
 use Rattle.tokens.specs.declared.Scanned.{Scanned}
 use Rattle.tokens.specs.declared.Scanned.TheVariants.{Clean, Refused}
-use Rattle.tokens.specs.Token.{ascii, place_of_of, token_at, next_of, onward, tokens_by, tokens_from, scan_of}
+use Rattle.tokens.specs.Token.{ascii, place_of, token_at, next_of, onward, tokens_by, tokens_from, scan_of}
 use Rattle.tokens.specs.Inner.Bounds.{Lexed}
 use Rattle.tokens.proofs.Laws.TokenLaws.{by_cond, lexed}
 use Rattle.decimal.specs.declared.Parsed.{Parsed}
@@ -32,7 +32,7 @@ use Rattle.grammar.specs.Reading.{Read, rule, refused, at_end, ended, parse_of, 
 -- ---- places of at most m: of tokens, of those left, and of a refusal
 abbrev Placed : ℕ → List Token → Type 0
 Placed m [] = Unit {0}
-Placed m (t ∷ ts) = (place_of_of t ≤ m) × Placed m ts
+Placed m (t ∷ ts) = (place_of t ≤ m) × Placed m ts
 
 abbrev RestPlaced : ℕ → Rest → Type 0
 RestPlaced m (rest ts) = Placed m ts
@@ -76,7 +76,7 @@ module _ (m : ℕ) where
   module _ (s : List ℕ) where
     expected_placed : (ts : List Token) (then : ℕ → List ℕ → List Token → PrimaryStart) → Placed m ts →
         ((p : ℕ) (w : List ℕ) (us : List Token) → p ≤ m → Placed m us → HeadPlaced m (then p w us)) → HeadPlaced m (require_word (expected_word s ts) then)
-    unfolding expected_word place_of_of
+    unfolding expected_word place_of
     expected_placed [] then h f = omega arith
     expected_placed (End p ∷ ts) then h f = h.0
     expected_placed (Open p n ∷ ts) then h f = h.0
@@ -129,7 +129,7 @@ module _ (m : ℕ) where
     word_placed d place w false ts at h = unquoted_placed d place w ts (after open_bracket ts) at h (after_placed open_bracket ts h)
 
     head_placed : (d : ℕ) (ts : List Token) → Placed m ts → HeadPlaced m (primary_start s d ts)
-    unfolding primary_start place_of_of
+    unfolding primary_start place_of
     head_placed d [] h = omega arith
     head_placed d (End p ∷ ts) h = h.0
     head_placed d (Open p n ∷ ts) h = opened_placed d p (a_group ts) h.0 h.1
@@ -207,7 +207,7 @@ module _ (m : ℕ) where
 
 -- ---- the tokens of a text
 onward_placed : (len at : ℕ) (t : Token) (later : ℕ → List Token) → Lexed len at t → ((n : ℕ) → Placed len (later n)) → Placed len (onward t (next_of t) later)
-unfolding next_of place_of_of
+unfolding next_of place_of
 onward_placed len at (End p) later l h = (omega arith, tt)
 onward_placed len at (Open p n) later l h = (omega arith, h n)
 onward_placed len at (Close p n) later l h = (omega arith, h n)
@@ -227,7 +227,7 @@ ScanPlaced m Clean = Unit {0}
 ScanPlaced m (Refused f) = f.place ≤ m
 
 scan_placed : (m : ℕ) (ts : List Token) → Placed m ts → ScanPlaced m (scan_of ts)
-unfolding scan_of place_of_of
+unfolding scan_of place_of
 scan_placed m [] h = tt
 scan_placed m (End p ∷ ts) h = scan_placed m ts h.1
 scan_placed m (Open p n ∷ ts) h = scan_placed m ts h.1

@@ -12,7 +12,7 @@ use Rattle.tokens.specs.declared.Token.{Token}
 use Rattle.tokens.specs.declared.Token.TheVariants.{End, Open, Close, Comma, And, Or, Word, Fault}
 use Rattle.tokens.specs.declared.Next.{Next}
 use Rattle.tokens.specs.declared.Next.TheVariants.{Off, To}
-use Rattle.tokens.specs.Token.{place_of_of, next_of, token_at, tokens_from}
+use Rattle.tokens.specs.Token.{place_of, next_of, token_at, tokens_from}
 use Rattle.tokens.specs.Inner.Bounds.{next_of_class, Lexed}
 use Rattle.tokens.proofs.Laws.TokenLaws.{lexed}
 use Rattle.grammar.specs.Grammar.{token_kind, missing, after, first_place}
@@ -28,10 +28,10 @@ tested k i {n} {e} h = go (eqb k i) refl h
 
 -- the token is of this kind, and where it is no sign it has one byte
 abbrev Found : ℕ → ℕ → Token → Type 0
-Found k e t = (token_kind t ≡ k) × (next_of t ≡ To e) × (k ≤ comma → e ≡ place_of_of t + 1)
+Found k e t = (token_kind t ≡ k) × (next_of t ≡ To e) × (k ≤ comma → e ≡ place_of t + 1)
 
 found : (len at k : ℕ) (t : Token) {e : ℕ} → Lexed len at t → next_of_class k t ≡ To e → Found k e t
-unfolding next_of_class next_of place_of_of
+unfolding next_of_class next_of place_of
 found len at k (End p) l h = let z : ◌≡◌ {A = ℕ} 0 1 = cc in absurd (omega arith)
 found len at k (Open p n) l h = let q = tested k open_bracket h in (sym q.0, ap To q.1, λ _. omega (arith, q.1))
 found len at k (Close p n) l h = let q = tested k close_bracket h in (sym q.0, ap To q.1, λ _. omega (arith, q.1))

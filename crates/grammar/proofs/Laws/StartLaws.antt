@@ -16,7 +16,7 @@ use Rattle.tokens.specs.declared.Token.{Token}
 use Rattle.tokens.specs.declared.Token.TheVariants.{End, Open, Close, Comma, And, Or, Word, Fault}
 use Rattle.tokens.specs.declared.Next.{Next}
 use Rattle.tokens.specs.declared.Next.TheVariants.{Off, To}
-use Rattle.tokens.specs.Token.{place_of_of, next_of, token_at, onward, tokens_from}
+use Rattle.tokens.specs.Token.{place_of, next_of, token_at, onward, tokens_from}
 use Rattle.tokens.proofs.Laws.TokenLaws.{tokens_are, left_some}
 use Rattle.rules.specs.Rule.{named}
 use Rattle.grammar.specs.Grammar as grammar
@@ -81,8 +81,8 @@ module _ {s : List ℕ} {low lo most : ℕ} {g : grammar.PrimaryStart} where
 -- ---- how a primary begins, by the token that is there
 -- neither a bracket nor a word
 none_by : (s : List ℕ) (d : ℕ) (t : Token) (ts : List Token) → (token_kind t ≡ open_bracket → ⊥) → (token_kind t ≡ 6 → ⊥) →
-    start_by s d t ts ≡ refuse no_expression (place_of_of t)
-unfolding place_of_of
+    start_by s d t ts ≡ refuse no_expression (place_of t)
+unfolding place_of
 none_by s d (End p) ts o w = refl
 none_by s d (Open p n) ts o w = absurd (o refl)
 none_by s d (Close p n) ts o w = refl
@@ -93,13 +93,13 @@ none_by s d (Word p a b q n) ts o w = absurd (w refl)
 none_by s d (Fault f) ts o w = refl
 
 none_onward : (s : List ℕ) (d : ℕ) (t : Token) (n : Next) (more : ℕ → List Token) → (token_kind t ≡ open_bracket → ⊥) → (token_kind t ≡ 6 → ⊥) →
-    primary_start s d (onward t n more) ≡ refuse no_expression (place_of_of t)
+    primary_start s d (onward t n more) ≡ refuse no_expression (place_of t)
 unfolding primary_start
 none_onward s d t Off more o w = none_by s d t [] o w
 none_onward s d t (To n) more o w = none_by s d t (more n) o w
 
 module _ (s : List ℕ) (d at : ℕ) {t : Token} (e : token_at s at ≡ t) where
-  pub head_none : (token_kind t ≡ open_bracket → ⊥) → (token_kind t ≡ 6 → ⊥) → primary_start s d (tokens_from s at) ≡ refuse no_expression (place_of_of t)
+  pub head_none : (token_kind t ≡ open_bracket → ⊥) → (token_kind t ≡ 6 → ⊥) → primary_start s d (tokens_from s at) ≡ refuse no_expression (place_of t)
   head_none o w = ap (primary_start s d) (tokens_are s at e) ∙ none_onward s d t (next_of t) (tokens_from s) o w
 
   pub head_next : {n : ℕ} → next_of t ≡ To n → primary_start s d (tokens_from s at) ≡ start_by s d t (tokens_from s n)

@@ -10,7 +10,7 @@ use Rattle.tokens.specs.declared.Token.{Token}
 use Rattle.tokens.specs.declared.Token.TheVariants.{End, Open, Close, Comma, And, Or, Word, Fault}
 use Rattle.tokens.specs.declared.Next.{Next}
 use Rattle.tokens.specs.declared.Next.TheVariants.{Off, To}
-use Rattle.tokens.specs.Token.{place_of_of, next_of, token_at, onward, tokens_from}
+use Rattle.tokens.specs.Token.{place_of, next_of, token_at, onward, tokens_from}
 use Rattle.tokens.specs.Inner.Bounds.{Lexed}
 use Rattle.tokens.proofs.Laws.TokenLaws.{tokens_are, goes_on, left_on, lexed}
 use Rattle.grammar.specs.Grammar.{token_kind, rest, missing, after, first_place, expected, other_token, expected_by, expected_word}
@@ -23,14 +23,14 @@ unfolding after
 after_onward k t Off more h = rw (ne_eqb (token_kind t) k h)
 after_onward k t (To n) more h = rw (ne_eqb (token_kind t) k h)
 
-place_onward : (t : Token) (n : Next) (more : ℕ → List Token) → first_place (onward t n more) ≡ place_of_of t
+place_onward : (t : Token) (n : Next) (more : ℕ → List Token) → first_place (onward t n more) ≡ place_of t
 unfolding first_place
 place_onward t Off more = refl
 place_onward t (To n) more = refl
 
 -- a word is expected, and another token is there
-other_by : (s : List ℕ) (t : Token) (ts : List Token) → (token_kind t ≡ 6 → ⊥) → expected_by s t ts ≡ other_token (place_of_of t)
-unfolding place_of_of
+other_by : (s : List ℕ) (t : Token) (ts : List Token) → (token_kind t ≡ 6 → ⊥) → expected_by s t ts ≡ other_token (place_of t)
+unfolding place_of
 other_by s (End p) ts h = refl
 other_by s (Open p n) ts h = refl
 other_by s (Close p n) ts h = refl
@@ -40,19 +40,19 @@ other_by s (Or p n) ts h = refl
 other_by s (Word p a b q n) ts h = absurd (h refl)
 other_by s (Fault f) ts h = refl
 
-other_onward : (s : List ℕ) (t : Token) (n : Next) (more : ℕ → List Token) → (token_kind t ≡ 6 → ⊥) → expected_word s (onward t n more) ≡ other_token (place_of_of t)
+other_onward : (s : List ℕ) (t : Token) (n : Next) (more : ℕ → List Token) → (token_kind t ≡ 6 → ⊥) → expected_word s (onward t n more) ≡ other_token (place_of t)
 unfolding expected_word
 other_onward s t Off more h = other_by s t [] h
 other_onward s t (To n) more h = other_by s t (more n) h
 
 module _ (s : List ℕ) (at : ℕ) {t : Token} (e : token_at s at ≡ t) where
-  pub first_place_lem : first_place (tokens_from s at) ≡ place_of_of t
+  pub first_place_lem : first_place (tokens_from s at) ≡ place_of t
   first_place_lem = ap first_place (tokens_are s at e) ∙ place_onward t (next_of t) (tokens_from s)
 
   pub after_off : (k : ℕ) → (token_kind t ≡ k → ⊥) → after k (tokens_from s at) ≡ missing
   after_off k h = ap (after k) (tokens_are s at e) ∙ after_onward k t (next_of t) (tokens_from s) h
 
-  pub word_missing : (token_kind t ≡ 6 → ⊥) → expected_word s (tokens_from s at) ≡ other_token (place_of_of t)
+  pub word_missing : (token_kind t ≡ 6 → ⊥) → expected_word s (tokens_from s at) ≡ other_token (place_of t)
   word_missing h = ap (expected_word s) (tokens_are s at e) ∙ other_onward s t (next_of t) (tokens_from s) h
 
   -- the text continues after it

@@ -16,7 +16,7 @@ use Rattle.tokens.specs.declared.Next.{Next}
 use Rattle.tokens.specs.declared.Next.TheVariants.{Off, To}
 use Rattle.tokens.specs.declared.Scanned.{Scanned}
 use Rattle.tokens.specs.declared.Scanned.TheVariants.{Clean}
-use Rattle.tokens.specs.Token.{ascii, place_of_of, next_of, token_at, onward, tokens_from, scan_of}
+use Rattle.tokens.specs.Token.{ascii, place_of, next_of, token_at, onward, tokens_from, scan_of}
 use Rattle.tokens.proofs.Laws.TokenLaws.{tokens_are}
 use Rattle.image.specs.Encode.{tags, args, names}
 use Rattle.image.proofs.Laws.EncodeLaws.{length_tags}
@@ -78,12 +78,12 @@ module _ (s : List ℕ) where
   end_onward t (To n) more = refl
 
   module _ {b a : Arrays} {e n m : ℕ} (r : parses.ParsedRule (λ (f : ℕ). or_in f s 0 (tokens_from s 0)) (3 * left s 0 + 3) s 0 0 0 b a e n m) where
-    ended_at : {t : Token} → token_at s e ≡ t → parse_of s ≡ cond (eqb (token_kind t) 0) (rule r.tree) (refused (refusal trailing_token (place_of_of t)))
+    ended_at : {t : Token} → token_at s e ≡ t → parse_of s ≡ cond (eqb (token_kind t) 0) (rule r.tree) (refused (refusal trailing_token (place_of t)))
     ended_at {t} h =
         parsed_as (got r.tree (tokens_from s e)) r.says
         ∙ rw (tokens_are s e h, end_onward t (next_of t) (tokens_from s), ← tokens_are s e h, first_place_lem s e h)
 
-    pub parse_trailing : {t : Token} {p : ℕ} → token_at s e ≡ t → (token_kind t ≡ 0 → ⊥) → p ≡ place_of_of t → parse_of s ≡ refused (refusal trailing_token p)
+    pub parse_trailing : {t : Token} {p : ℕ} → token_at s e ≡ t → (token_kind t ≡ 0 → ⊥) → p ≡ place_of t → parse_of s ≡ refused (refusal trailing_token p)
     parse_trailing h k q = ended_at h ∙ rw (ne_eqb _ _ k, q)
 
     pub parse_whole : {p : ℕ} → token_at s e ≡ End p → (scan_of (tokens_from s 0) ≡ Clean) × Whole (parse_of s) s a n m

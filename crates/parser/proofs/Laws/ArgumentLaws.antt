@@ -8,7 +8,7 @@ use Rattle.classes.specs.Class.{close_bracket, comma}
 use Rattle.refusals.specs.declared.Refusal.{Refusal}
 use Rattle.tokens.specs.declared.Next.{Next}
 use Rattle.tokens.specs.declared.Next.TheVariants.{Off, To}
-use Rattle.tokens.specs.Token.{place_of_of, token_at, tokens_from}
+use Rattle.tokens.specs.Token.{place_of, token_at, tokens_from}
 use Rattle.tokens.specs.Inner.Bounds.{next_of_class}
 use Rattle.rules.specs.Rule.{Join}
 use Rattle.grammar.specs.Grammar.{bad, after, missing, a_group, a_list, primary_start, or_in, primary_in}
@@ -33,7 +33,7 @@ module _ (s : List ℕ) (d at : ℕ) {e₀ : ℕ} (q : primary_start s d (tokens
       v ≡ group_end s e n₁ m₁ → ParseAnswer (λ (f : ℕ). primary_in f s d (tokens_from s at)) (3 * left s at + 1) s at n m b a v
   group_read {n} {m} {b} {a} {e} {n₁} {m₁} {v} r w = go (next_of_class close_bracket (token_at s e)) refl w
     where
-      go : (x : Next) → x ≡ next_of_class close_bracket (token_at s e) → v ≡ closed_by x (place_of_of (token_at s e)) n₁ m₁ →
+      go : (x : Next) → x ≡ next_of_class close_bracket (token_at s e) → v ≡ closed_by x (place_of (token_at s e)) n₁ m₁ →
           ParseAnswer (λ (f : ℕ). primary_in f s d (tokens_from s at)) (3 * left s at + 1) s at n m b a v
       go (To y) p g = let i = test_on s e close_bracket p refl in gave_done g (closed s d at q h r i.sign i.bounds)
       go Off p g = gave_refused g (unclosed s d at q h r (test_off s e close_bracket p (omega arith) (omega arith) refl) (first_place_lem s e refl))
@@ -167,7 +167,7 @@ module _ (s : List ℕ) (d at : ℕ) (j : Join) where
           la = still i.long same.tags same.args same.names
 
           by_close : after comma (tokens_from s e₂) ≡ missing → (x : Next) → x ≡ next_of_class close_bracket (token_at s e₂) →
-              w ≡ End (closed_by x (place_of_of (token_at s e₂)) n₂ m₂) → Arguments s d at j n m cap b a₂ w
+              w ≡ End (closed_by x (place_of (token_at s e₂)) n₂ m₂) → Arguments s d at j n m cap b a₂ w
           by_close c (To y) q g =
               let u = test_on s e₂ close_bracket q refl in
               let lt : n₂ < cap = omega (arith, l.room, r.room, u.bounds) in

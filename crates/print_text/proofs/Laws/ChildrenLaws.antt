@@ -18,8 +18,8 @@ use Rattle.image.proofs.Laws.EncodedAtLaws.{root_size}
 use Rattle.image.proofs.Laws.KindLaws.{says, no_leaf, leaf_no_join}
 use Rattle.image.proofs.Laws.CellLaws.{cell_what}
 use Rattle.print_text.specs.Print.{child_text, text_of, children_text}
-use Rattle.print_text.specs.Inner.Pieces.{leaf_text_of, leaf_in, opening_of_of, front_of, back_of}
-use Rattle.print_text.proofs.Laws.PiecesLaws.{root_of, kind_of, root_what, kind_of_lem, opening_of, child_of, child_short, opening_short, leaf_short}
+use Rattle.print_text.specs.Inner.Pieces.{leaf_text_of, leaf_in, opening_of, front_of, back_of}
+use Rattle.print_text.proofs.Laws.PiecesLaws.{root_of, kind_of, root_what, kind_of_lem, opening_of_lem, child_of, child_short, opening_short, leaf_short}
 
 -- the text of the first children of a combinator; the last of these is the combinator's last child, or is not
 unfoldable pub up_to : Rules → Join → Bool → List ℕ
@@ -47,7 +47,7 @@ module _ (s : List ℕ) (n : ℕ) where
     pub kinded : kind ≡ join_kind join
     pub standing : EncodedAllAt rest (cell_at s n) from
     pub ends : from + sizes rest ≡ end
-    pub text : text_of ρ ≡ opening_of_of kind arg ++ (up_to rest join (eqb end (from + k - 1)) ++ passed)
+    pub text : text_of ρ ≡ opening_of kind arg ++ (up_to rest join (eqb end (from + k - 1)) ++ passed)
 
   -- so for whatever rule has these nodes, and P holds of what was passed
   abbrev pub TextWalks : ℕ → ℕ → ℕ → ℕ → ℕ → (List ℕ → Type 0) → Type 0
@@ -78,7 +78,7 @@ module _ (s : List ℕ) (n : ℕ) where
             kinded = x;
             standing = (st.0, st.1);
             ends = omega arith;
-            text = rw (x, y, opening_of j, eq-eqb i (from + k - 1) (omega arith), append-nil);
+            text = rw (x, y, opening_of_lem j, eq-eqb i (from + k - 1) (omega arith), append-nil);
           },
           p,
         )
@@ -98,7 +98,7 @@ module _ (s : List ℕ) (n : ℕ) where
 
   -- what surrounds it and what was passed fit into the text
   pub turn_room : {kind arg from k end : ℕ} {P : List ℕ → Type 0} {ρ : Rule} {d : Node} (t : Turn kind arg from k end P ρ d) →
-      length (opening_of_of kind arg)
+      length (opening_of kind arg)
       + (length (front_of kind d.kind) + (length (text_of t.child) + (length (back_of kind d.kind (eqb end (from + k - 1))) + length t.passed)))
       ≤ length (text_of ρ)
   turn_room t = omega (arith, simp length-append at (ap length t.next.text))
@@ -133,7 +133,7 @@ module _ (s : List ℕ) (n : ℕ) where
               standing = w.standing.0;
               ends = p;
               text = w.text
-                  ∙ up_next (opening_of_of kind arg) rest q j (eqb end (from + k - 1)) passed w.kinded x
+                  ∙ up_next (opening_of kind arg) rest q j (eqb end (from + k - 1)) passed w.kinded x
                   (ne_eqb (end - d.size) (from + k - 1) (λ f. omega arith));
             };
           }
@@ -148,13 +148,13 @@ module _ (s : List ℕ) (n : ℕ) where
           TextWalks kind arg from k (end - d.size) P'
       walks_next f ρ e st = let t = turn ρ e st in (t.before, _, t.next, f t.child t.passed t.sized t.stands t.holds)
 
-    done_of : (ρ : Rule) (rest : Rules) {passed : List ℕ} → end ≤ from → TextWalk kind arg from k end ρ rest passed → text_of ρ ≡ opening_of_of kind arg ++ passed
+    done_of : (ρ : Rule) (rest : Rules) {passed : List ℕ} → end ≤ from → TextWalk kind arg from k end ρ rest passed → text_of ρ ≡ opening_of kind arg ++ passed
     unfolding size up_to
     done_of ρ nil le w = w.text
     done_of ρ (more rest q) le w = absurd (omega (arith, w.ends, size_pos q))
 
     -- all are passed
-    pub walks_done : end ≤ from → (ρ : Rule) → size ρ ≡ k → EncodedAt ρ (cell_at s n) from → (t : List ℕ) × (text_of ρ ≡ opening_of_of kind arg ++ t) × P t
+    pub walks_done : end ≤ from → (ρ : Rule) → size ρ ≡ k → EncodedAt ρ (cell_at s n) from → (t : List ℕ) × (text_of ρ ≡ opening_of kind arg ++ t) × P t
     walks_done le ρ e st = let (rest, passed, w, h) = ws ρ e st in (passed, done_of ρ rest le w, h)
 
   -- ---- at most 65,600 bytes a node, and 6 of them around the text

@@ -17,7 +17,7 @@ use Rattle.image.specs.Inner.Leaves.{is_leaf}
 use Rattle.image.specs.Inner.EncodedAt.{EncodedAt}
 use Rattle.image.proofs.Laws.KindLaws.{other_kind, says, NoLeaf, no_leaf}
 use Rattle.print_text.specs.Print.{opening, after_child, is_any, bracketed, bracket, child_text}
-use Rattle.print_text.specs.Inner.Pieces.{leaf_text_of, leaf_in, opening_of_of, after_child_of, bracketed_of, front_of, back_of}
+use Rattle.print_text.specs.Inner.Pieces.{leaf_text_of, leaf_in, opening_of, after_child_of, bracketed_of, front_of, back_of}
 use Rattle.decimal.proofs.Laws.DigitsLaws.{digits_short}
 use Rattle.duration_text.proofs.Laws.DurationTextLaws.{duration_short}
 
@@ -46,11 +46,11 @@ kind_of_lem s n k a (leaf l) e = rw e at (says s n k a)
 kind_of_lem s n k a (node j rs r) e = (rw e at (says s n k a)).0
 
 -- ---- a combinator's pieces, by its kind and argument and its child's kind
-pub opening_of : (j : Join) → opening_of_of (join_kind j) (join_arg j) ≡ opening j
-unfolding opening_of_of
-opening_of (at_least k) = refl
-opening_of all = refl
-opening_of any = refl
+pub opening_of_lem : (j : Join) → opening_of (join_kind j) (join_arg j) ≡ opening j
+unfolding opening_of
+opening_of_lem (at_least k) = refl
+opening_of_lem all = refl
+opening_of_lem any = refl
 
 after_child_of_lem : (j : Join) (last : Bool) → after_child_of (join_kind j) last ≡ after_child j last
 unfolding after_child_of
@@ -90,8 +90,8 @@ leaf_none nothing h = refl
 pub no_leaf_text : (s : List ℕ) (n k a : ℕ) → is_leaf k ≡ false → leaf_in s n k a ≡ []
 no_leaf_text s n k a h = leaf_none (meaning s n k a) (no_leaf s n k a h)
 
-pub no_opening : (k a : ℕ) → (k ≡ at_least_kind → ⊥) → opening_of_of k a ≡ []
-unfolding opening_of_of
+pub no_opening : (k a : ℕ) → (k ≡ at_least_kind → ⊥) → opening_of k a ≡ []
+unfolding opening_of
 no_opening k a h = rw (ne_eqb k at_least_kind h)
 
 pub after_child_none : (k : ℕ) {last : Bool} → (k ≡ at_least_kind → ⊥) → (all_kind ≤ k → k ≤ any_kind → last ≡ true) → after_child_of k last ≡ []

@@ -18,9 +18,9 @@ abbrev pub leaf_in : List ℕ → ℕ → ℕ → ℕ → List ℕ
 leaf_in s n kind arg = leaf_text_of (meaning s n kind arg)
 
 -- what comes before the children of a combinator of this kind and argument
-unfoldable pub opening_of_of : ℕ → ℕ → List ℕ
+unfoldable pub opening_of : ℕ → ℕ → List ℕ
 unfolding opening
-opening_of_of kind arg = cond (eqb kind at_least_kind) (opening (at_least arg)) []
+opening_of kind arg = cond (eqb kind at_least_kind) (opening (at_least arg)) []
 
 -- what comes after a child of a combinator of this kind
 unfoldable pub after_child_of : ℕ → Bool → List ℕ

@@ -1,27 +1,14 @@
--- Document 01's proved sheet, with the rows that document 02's jobs add or amend: one table, proved by one statement over all of its
--- rows. Assumes nothing.
-use mathlib.Core.Path.{◌≡◌, refl}
-use mathlib.Core.List.{List, [], ◌∷◌, map, Memᴰ}
+-- Document 01's proved sheet, with the rows that document 02's jobs add or amend: one table. `SheetLaws` proves it by one statement over all
+-- of its rows. Assumes nothing.
+use mathlib.Core.List.{List, [], ◌∷◌}
 use Prim.Native.Nat.{ℕ}
 use Prim.Native.String.{String}
-use Rattle.slices.specs.Text.{bytes, part, run, run_end, all_ascii, other}
-use Rattle.ascii.specs.Letters.{lower, equal_by}
-use Rattle.classes.specs.Class.{class_of, of_class}
+use Rattle.slices.specs.Text.{bytes}
 use Rattle.refusals.specs.declared.Refusal.{Refusal}
 use Rattle.refusals.specs.Refusals.{refusal, half_sign, no_expression, bracket_expected, bad_count, empty_list, unconfirmed, archive_only}
-use Rattle.tokens.specs.Token.{ascii, place_of_of, doubled, quoted_to, quoted_at, unquoted_to, unquoted_at, token_of, start_at, token_at, next_of, tokens_by, tokens_from, scan_of}
-use Rattle.decimal.specs.Count.{count_of}
-use Rattle.decimal.specs.Digits.{digits_of}
-use Rattle.durations.specs.Duration.{duration_of}
-use Rattle.duration_text.specs.DurationText.{duration_text}
 use Rattle.rules.specs.Rule.{named, older_than, readable, Join, all, any, Rule, leaf, node, nil, more, size}
-use Rattle.grammar.specs.Grammar.{after, first_place, expected_word, older_than_start, readable_start, at_least_start, function_of, unquoted_leaf, primary_start, left_rules, chain, or_in}
-use Rattle.grammar.specs.Reading.{Read, rule, refused, parse_of, read_of}
-use Rattle.little_endian.specs.Bytes.{le_at}
-use Rattle.store_table.specs.Names.{has}
-use Rattle.store_table.specs.Stores.{sum, all_at_most, well_made, entries_in, is_readable, all_names, write_only_names, ready_count, twin_of}
-use Rattle.evaluate.specs.Evict.{evict}
-use Rattle.verdict.specs.Check.{unknown_in, check_rule, judge_of}
+use Rattle.grammar.specs.Reading.{Read, rule, refused, read_of}
+use Rattle.verdict.specs.Check.{judge_of}
 use Rattle.verdict.specs.declared.Verdict.{Verdict}
 use Rattle.verdict.specs.declared.Verdict.TheVariants.{Pass, Refused as NotPassed}
 use Rattle.print_text.specs.Print.{text_of}
@@ -98,21 +85,3 @@ rows =
     -- document 02, Job 1: "the sheet gains "1w 1d" as 691,200,000"
     reads "older_than(\"1w 1d\")" (leaf (older_than 691_200_000)) 1 ∷
     []
-
--- by computation, over all rows at once
-rows_computed : map answer_of rows ≡ map expected rows
-unfolding answer_of expected run run_end part lower equal_by class_of of_class other doubled quoted_to quoted_at unquoted_to unquoted_at
-    token_of start_at token_at next_of tokens_by tokens_from scan_of count_of duration_of ascii place_of_of size after first_place expected_word
-    older_than_start readable_start at_least_start function_of unquoted_leaf primary_start left_rules chain or_in parse_of read_of le_at
-    all_ascii has sum all_at_most well_made entries_in is_readable all_names write_only_names ready_count twin_of evict unknown_in check_rule
-    judge_of duration_text text_of digits_of
-rows_computed = refl
-
--- each row holds
-each : (r : Example) (rs : List Example) → map answer_of rs ≡ map expected rs → Memᴰ r rs → answer_of r ≡ expected r
-each r [] e m = elim m [ ]
-each r (x ∷ xs) e (Memᴰ.head q) = rw q (cc)
-each r (x ∷ xs) e (Memᴰ.tail m) = each r xs (cc) m
-
-pub sheet : (r : Example) → Memᴰ r rows → answer_of r ≡ expected r
-sheet r m = each r rows rows_computed m

@@ -10,7 +10,7 @@ use lib.Dec.{leb}
 use Rattle.slices.specs.Text.{bytes, AllBytes, part, run, run_end, all_ascii, other}
 use Rattle.ascii.specs.Letters.{lower, equal_by}
 use Rattle.classes.specs.Class.{class_of, of_class}
-use Rattle.tokens.specs.Token.{ascii, place_of_of, doubled, quoted_to, quoted_at, unquoted_to, unquoted_at, token_of, start_at, token_at, next_of, tokens_by, tokens_from, scan_of}
+use Rattle.tokens.specs.Token.{ascii, place_of, doubled, quoted_to, quoted_at, unquoted_to, unquoted_at, token_of, start_at, token_at, next_of, tokens_by, tokens_from, scan_of}
 use Rattle.decimal.specs.Count.{count_of}
 use Rattle.durations.specs.Duration.{duration_of}
 use Rattle.little_endian.specs.Bytes.{le_at}
@@ -51,7 +51,7 @@ text = bytes "older_than(30d) && readable(1)"
 
 passes : judge_of text home ≡ Pass
 unfolding run run_end part lower equal_by class_of of_class other doubled quoted_to quoted_at unquoted_to unquoted_at token_of start_at
-    token_at next_of tokens_by tokens_from scan_of count_of duration_of ascii place_of_of size after first_place expected_word older_than_start
+    token_at next_of tokens_by tokens_from scan_of count_of duration_of ascii place_of size after first_place expected_word older_than_start
     readable_start at_least_start function_of unquoted_leaf primary_start left_rules chain or_in parse_of read_of le_at all_ascii has sum
     all_at_most well_made entries_in is_readable all_names write_only_names ready_count twin_of evict unknown_in check_rule judge_of
 passes = refl

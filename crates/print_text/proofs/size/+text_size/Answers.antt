@@ -9,7 +9,7 @@ use Rattle.image.specs.Inner.Valid.{node_of}
 use Rattle.image.proofs.Laws.EncodeLaws.{size_pos}
 use Rattle.image.proofs.Laws.CellLaws.{name_inside}
 use Rattle.print_text.specs.Print.{text_of}
-use Rattle.print_text.specs.Inner.Pieces.{opening_of_of}
+use Rattle.print_text.specs.Inner.Pieces.{opening_of}
 use Rattle.print_text.proofs.Laws.ChildrenLaws.{TextWalks, walks_start, Turn, turn, turn_room, walks_next, walks_done, leaf_text_lem, text_short}
 use Rattle.print_text.proofs.size.+text_size.Goals as goal
 use Rattle.print_text.proofs.size.+text_size.Goals.{After-around_size-total, After-leaf_size-total}
@@ -23,7 +23,7 @@ the_turn : (t : ℕ) (c : After-around_size-total t) →
     let d = c.node_at-root.result in
     let total = c.loop-end.total in
     Turn c.args.image.now c.args.n d.kind d.arg c.args.from c.args.size
-    c.loop-end.end (λ t. total ≡ length (opening_of_of d.kind d.arg) + length t)
+    c.loop-end.end (λ t. total ≡ length (opening_of d.kind d.arg) + length t)
     c.requires.0.here.rule (node_of c.node_at-child.result)
 the_turn t c =
     let h = c.requires.0.here in
@@ -62,7 +62,7 @@ counted_next : (t : ℕ) (c : After-around_size-total t) {r : ℕ} →
     let end = i.end - c.node_at-child.result.size in
     (end ≤ c.args.from + c.args.size - 1)
     × TextWalks c.args.image.now c.args.n d.kind d.arg c.args.from c.args.size end
-    (λ t. i.total + c.around_size-total.result + r ≡ length (opening_of_of d.kind d.arg) + length t)
+    (λ t. i.total + c.around_size-total.result + r ≡ length (opening_of d.kind d.arg) + length t)
 counted_next t c h =
     let i = c.loop-end.invariant in (
       omega (arith, i.0),

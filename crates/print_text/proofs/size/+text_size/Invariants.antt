@@ -1,7 +1,7 @@
 -- `print_text::size::text_size` meets its contract: the walk over the children keeps the bytes of the text that was passed, and each child
 -- has fewer nodes than its parent.
 use Rattle.std.proofs.Common.{◌-◌, ◌≡◌, ◌+◌, ◌≤◌, length}
-use Rattle.print_text.specs.Inner.Pieces.{opening_of_of}
+use Rattle.print_text.specs.Inner.Pieces.{opening_of}
 use Rattle.print_text.proofs.Laws.ChildrenLaws.{TextWalks}
 use Rattle.print_text.proofs.size.+text_size.Given as goal
 
@@ -10,7 +10,7 @@ decreases-text_size l = l.size
 
 abbrev pub invariant-loop-end : goal.invariant-loop-end
 invariant-loop-end l =
-    (l.end ≤ l.from + l.size - 1) × TextWalks l.image l.n l.kind l.arg l.from l.size l.end (λ t. l.total ≡ length (opening_of_of l.kind l.arg) + length t)
+    (l.end ≤ l.from + l.size - 1) × TextWalks l.image l.n l.kind l.arg l.from l.size l.end (λ t. l.total ≡ length (opening_of l.kind l.arg) + length t)
 
 abbrev pub decreases-loop-end : goal.decreases-loop-end
 decreases-loop-end l = l.end
