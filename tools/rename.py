@@ -18,6 +18,9 @@ declared and where it is imported from there: another thing of the same name kee
 prover names a fact after a function that is called. A clause without arguments that is indented is taken for the label of a
 field and keeps its name, so look for the old one afterwards. Edits follow, and so do docs/*.md and the readme where a name is in
 backticks; there another thing of the same name is changed too, so look those pages over. Prints what each line has changed.
+
+It reads and writes the spelling of the kits before docs/PORT.md, as tools/rename.txt does: a draft with old names follows by this first,
+then by the kit's port.py and tools/snake_case.py.
 """
 import pathlib
 import re
