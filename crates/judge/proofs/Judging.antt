@@ -9,11 +9,12 @@ use Rattle.verdict.specs.declared.Verdict.TheVariants.{Refused}
 use Rattle.verdict.specs.Check.{judge_of}
 use Rattle.verdict.specs.Guarantee.{Judged}
 use Rattle.parse_text.proofs.Laws.ParseTextLaws.{read_long}
-use Rattle.verdict.proofs.Laws.GuaranteeLaws.{judge_read_lem, judged}
+use Rattle.verdict.proofs.Laws.GuaranteeLaws.{judge_read_lem, with_judged}
 
 -- a text of more than 2,048 bytes gets 2
 pub judge_long : (text s : List ℕ) → 2048 < length text → judge_of text s ≡ Refused (refusal long_text 0)
 judge_long text s h = judge_read_lem text s (read_long text h)
 
+-- and what the demand says holds of it
 pub judge_guarantee : (text s : List ℕ) (v : Verdict) → v ≡ judge_of text s → Judged text s v
-judge_guarantee text s v e = rw e (judged text s)
+judge_guarantee text s v e = (with_judged text s e).1

@@ -30,17 +30,15 @@ module _ (unit : List ℕ) where
   pub part_length : (k : ℕ) → k ≢ 0 → length (part_text k unit) ≡ length (digits_of k) + length unit
   part_length k e = rw (part_nonzero k e, length-append)
 
-  -- at most 20 digits
-  pub part_short : (k : ℕ) → length (part_text k unit) ≤ 20 + length unit
+  -- so it is at most as long as these
+  part_at_most : (k : ℕ) → length (part_text k unit) ≤ length (digits_of k) + length unit
   unfolding part_text
-  part_short zero = omega arith
-  part_short (suc k) = rw length-append (omega (arith, digits_short (suc k)))
+  part_at_most zero = omega arith
+  part_at_most (suc k) = rw length-append (omega arith)
 
--- at most as long as its digits and its unit
-part_most_lem : (unit : List ℕ) (k : ℕ) → length (part_text k unit) ≤ length (digits_of k) + length unit
-unfolding part_text
-part_most_lem unit zero = omega arith
-part_most_lem unit (suc k) = rw length-append (omega arith)
+  -- and has at most 20 digits
+  pub part_short : (k : ℕ) → length (part_text k unit) ≤ 20 + length unit
+  part_short k = omega (arith, part_at_most k, digits_short k)
 
 -- milliseconds are printed as minutes are, and an s after that
 pub millis_split : (k : ℕ) → k ≢ 0 → part_text k (bytes "ms") ≡ part_text k (bytes "m") ++ bytes "s"
@@ -94,38 +92,26 @@ duration_days ms e whole =
     let millis = part_zero (bytes "ms") (ms % 1_000) (omega arith) in
     duration_parts ms e ∙ rw (hours, minutes, seconds, millis, append-nil)
 
--- at most 20 digits and a unit for each of five parts
-pub duration_short : (ms : ℕ) → length (duration_text ms) ≤ 110
-unfolding duration_text
-duration_short zero = omega arith
-duration_short (suc k) =
-    let ms = suc k in
-    omega (
-      arith,
-      duration_length ms (λ e. omega arith),
-      part_short (bytes "d") (ms / 86_400_000),
-      part_short (bytes "h") (ms / 3_600_000 % 24),
-      part_short (bytes "m") (ms / 60_000 % 60),
-      part_short (bytes "s") (ms / 1_000 % 60),
-      part_short (bytes "ms") (ms % 1_000),
-    )
-
 -- at most 15 bytes besides the digits of its days: two digits of hours, minutes and seconds, three of milliseconds, and the units
 pub duration_most : (ms : ℕ) → length (duration_text ms) ≤ length (digits_of (ms / 86_400_000)) + 15
 unfolding duration_text
 duration_most zero = omega arith
 duration_most (suc k) =
     let ms = suc k in
-    rw (length-append, length-append, length-append, length-append)
     omega (
       arith,
-      part_most_lem (bytes "d") (ms / 86_400_000),
-      part_most_lem (bytes "h") (ms / 3_600_000 % 24),
-      part_most_lem (bytes "m") (ms / 60_000 % 60),
-      part_most_lem (bytes "s") (ms / 1_000 % 60),
-      part_most_lem (bytes "ms") (ms % 1_000),
+      duration_length ms (λ e. omega arith),
+      part_at_most (bytes "d") (ms / 86_400_000),
+      part_at_most (bytes "h") (ms / 3_600_000 % 24),
+      part_at_most (bytes "m") (ms / 60_000 % 60),
+      part_at_most (bytes "s") (ms / 1_000 % 60),
+      part_at_most (bytes "ms") (ms % 1_000),
       digits_below 1 (ms / 3_600_000 % 24) (omega arith),
       digits_below 1 (ms / 60_000 % 60) (omega arith),
       digits_below 1 (ms / 1_000 % 60) (omega arith),
       digits_below 2 (ms % 1_000) (omega arith),
     )
+
+-- the days have at most 20
+pub duration_short : (ms : ℕ) → length (duration_text ms) ≤ 110
+duration_short ms = omega (arith, duration_most ms, digits_short (ms / 86_400_000))
