@@ -4,7 +4,7 @@
 usage: python3 tools/edits.py
 
 An edit (crates/NAME/must-fail/LABEL.edit) says in its first line what is wrong with the program that it makes. The table has a
-row for each function, constant or file that an edit changes. tools/map.py tells when the table is not what this would write.
+row for each function, constant, type or file that an edit changes. tools/map.py tells when the table is not what this would write.
 """
 import collections
 import pathlib
@@ -14,18 +14,28 @@ ROOT = pathlib.Path(__file__).resolve().parent.parent
 CRATES = ROOT / 'crates'
 PAGE = ROOT / 'docs' / 'MAP.md'
 HEAD = '| What is changed | Wrong programs |\n|---|---|\n'
-ITEM = re.compile(r'^( *)(?:pub(?:\(crate\))? )?(?:extern "C" )?(fn|const|enum|struct) (\w+)', re.M)
+ITEM = re.compile(r'^( *)(?:pub(?:\(crate\))? )?(?:extern "C" )?(fn|const|static|type|enum|struct) (\w+)(.*)', re.M)
+# The head of a block of methods: the type that has them.
+BLOCK = re.compile(r'^impl(?:<[^>]*>)? (?:.* for )?(\w+|\(\))', re.M)
+
+
+def end_of(found):
+    """What a function, a constant or a type ends with."""
+    indent, kind, _, rest = found.groups()
+    if kind in ('const', 'static', 'type') or rest.endswith(';'):
+        return re.compile(r';$', re.M)
+    return re.compile(rf'^{indent}\}}$|^{indent}    (?:requires|ensures) .*;$', re.M)
 
 
 def items(text):
-    """The functions, constants and types of a source, each with its text."""
+    """The functions, constants and types of a source, each with its text; a method with its type."""
     for found in ITEM.finditer(text):
-        close = re.compile(r';$' if found[2] == 'const' else rf'^{found[1]}\}}$', re.M)
-        yield found[3], text[found.start():close.search(text, found.start()).end()]
+        types = [block[1] for block in BLOCK.finditer(text, 0, found.start())] if found[1] else []
+        yield '::'.join([*types[-1:], found[3]]), text[found.start():end_of(found).search(text, found.start()).end()]
 
 
 def changed(crate, edit):
-    """What the first replacement of an edit changes: a function or a constant, else a file."""
+    """What the first replacement of an edit changes: a function, a constant or a type, else a file."""
     file = re.search(r'^file: (.*)$', edit, re.M)[1]
     old = re.search(r'^old: (.*)$', edit, re.M)[1]
     text = (crate / file).read_text()

@@ -7,8 +7,9 @@ The documents are those given, else $DOCUMENT_01 and $DOCUMENT_02, else ../share
 beside the repository. Of document 02 the jobs count that have a page docs/landings/job-NN.md.
 
 A name is in backticks. One with a slash is a file or a folder, below crates/ or the root, or a must-fail edit; one with
-`::` is a function of a crate; any other is a definition, law, field, function, constant, type, edit or crate. What a row quotes
-from a document is no name. Prints each missing name with its line, then `N names, M missing`.
+`::` is a function, a method, a constant or a case of a crate, and what follows a type is of that type; any other is a definition,
+law, field, function, constant, type or one of its cases, fact of a struct, edit or crate. What a row quotes from a document is no
+name. Prints each missing name with its line, then `N names, M missing`.
 
 A sentence ends at a full stop before a blank, or with its line; a row of a table is one sentence; headings and code are none.
 A row of docs/MAP.md quotes between straight double quotes in its first cell, and `..` marks what it leaves out. A quote
@@ -35,12 +36,22 @@ WORD = r'[^\s(){}\[\];,.:=]+'
 # How antt, Rattle and Rust declare a name.
 ANTT = re.compile(rf'^\s*(?:(?:abbrev|unfoldable|pub|data|record|mutual|module)\s+)*({WORD})(?=[\s({{:])', re.M)
 # Words in backticks that belong to the language or a command, or mean any name.
-PLAIN = {'requires', 'ensures', 'Laws', 'stdout', 'f', '..'}
-CODE = re.compile(r'\b(?:fn|const|struct|enum|mod|trait|static)\s+(\w+)')
+PLAIN = {'requires', 'ensures', 'Laws', 'stdout', 'f', '..', 'Option', 'Result'}
+CODE = re.compile(r'\b(?:fn|const|struct|enum|mod|trait|static|type|ghost(?! use))\s+(\w+)')
+# A type cited with its sort.
+KIND = re.compile(r'\b(?:struct|enum) \w+')
+# The cases of an enum: its name, and what it has in its braces; there, the name of each.
+ENUM = re.compile(r'^(?:pub )?enum (\w+) \{$(.*?)^\}', re.M | re.S)
+CASE = re.compile(r'^    (\w+)(?= =|,| \{|\()', re.M)
 # What is no sentence of a document: code, headings, the head of a table.
 SKIPPED = re.compile(r'^```[\s\S]*?^```|^#.*|^\|.*\n\|-.*', re.M)
 # A job of document 02, a line of its own: its number and title, then what it asks for.
 JOB = re.compile(r'\*\*Job (\d+)\.[^*]*\*\*\s*(.*)')
+
+
+def cases(source):
+    """The cases of a source's enums, each with its type."""
+    return [(name, case) for name, body in ENUM.findall(source) for case in CASE.findall(body)]
 
 
 def declared():
@@ -49,7 +60,10 @@ def declared():
     for path in [*CRATES.glob('*/specs/**/*.antt'), *CRATES.glob('*/proofs/**/*.antt')]:
         names.update(ANTT.findall(path.read_text()))
     for path in [*CRATES.glob('*/src/*.rt'), *ROOT.glob('compare/src/*.rs')]:
-        names.update(CODE.findall(path.read_text()))
+        text = path.read_text()
+        names.update(CODE.findall(text), KIND.findall(text))
+        if path.suffix == '.rt':
+            names.update(case for _, case in cases(text))
     names.update(path.stem for path in CRATES.glob('*/must-fail/*.edit'))
     names.update(path.name for path in CRATES.iterdir())
     names.update(path.name for path in CRATES.glob('*/proofs/**/*') if path.is_dir())
@@ -73,11 +87,14 @@ def found(name, names):
         return True
     name = name.split('(')[0].split(' --')[0].strip()
     if name.startswith(('struct ', 'enum ')):
-        return name.split()[1] in names
+        return name in names
     if '::' in name:
         crate, *rest = name.split('::')
         sources = ''.join(path.read_text() for path in CRATES.glob(f'{crate}/src/*.rt'))
-        return all(part in CODE.findall(sources) for part in rest)
+        owned = {*map('::'.join, cases(sources)), *(name for name, _ in edits.items(sources))}
+        pairs = [f'{owner}::{part}' for owner, part in zip(rest, rest[1:]) if owner[0].isupper()]
+        known = {*CODE.findall(sources), *(case for _, case in cases(sources))}
+        return all(part in known for part in rest) and all(pair in owned for pair in pairs)
     if '/' in name or re.search(r'\.(antt|rt|rs|py|md|h)$', name):
         return stands(name.rstrip('/'))
     return name in names or name.split(':')[0] in names

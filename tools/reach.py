@@ -5,7 +5,7 @@ usage: python3 tools/reach.py
 
 A contract cites definitions, and a definition cites others. All that is reached so must be in the folder `specs` of some crate,
 and nothing else may be there: what inner functions promise each other is in `specs/Inner`, laws are in `proofs/Laws`. The law
-`decode-encode` counts as a contract: it says of `image/specs/Decode.antt` all that there is to believe, in terms of `encode` and
+`decode_encode` counts as a contract: it says of `image/specs/Decode.antt` all that there is to believe, in terms of `encode` and
 `Fits`, so that this file and the layout it reads by need no belief. docs/MAP.md must list just these files, in its reading order.
 
 Prints each file with its lines, then how many need no belief, then `N files, M lines, K wrong` of those that are believed. The
@@ -87,7 +87,7 @@ def cites(text, names):
 def contract(crate, function):
     """The contract of a function, and the names that it may cite."""
     text = (CRATES / crate / 'src' / 'lib.rt').read_text()
-    start = re.search(rf'\bfn {function}\(', text).start()
+    start = re.search(rf'\bfn {function}[<(]', text).start()
     clauses = re.findall(r'^\s*(?:requires|ensures)\*?(?: \w+)? \{(.*?)\}$', text[start:text.index('\n{', start)], re.M | re.S)
     return ' '.join(clauses), imported(text)
 

@@ -1,80 +1,93 @@
 // The table of the stores that arguments give.
 #![tactic(auto)]
 
-ghost use Rattle.std.specs.Prelude.{◌+◌, ◌≤◌, ◌<◌, length};
-ghost use Rattle.store_args.specs.Arguments.{given_by, arguments_in, stores_in};
-ghost use Rattle.store_args.specs.Inner.Filling.{arrays, OneOf, FilledBy, MadeOf};
+ghost use Rattle.std.specs.Prelude.{◌≤◌, ◌≡◌, List, [], ◌∷◌, ◌++◌, MatchResult, length};
+ghost use Rattle.store_table.specs.Stores.{Entry};
+ghost use Rattle.store_args.specs.Arguments.{arguments_in, stores_in};
+ghost use Rattle.store_args.specs.Inner.Filling.{entry, TableAt};
+ghost use Rattle.args_table.specs.Inner.Stores.{Hold, Room, Written};
 
-use little_endian::write_u16;
-use slices::{append, mark_at};
-use store_args::{Filled, Given, Made, One, given_by, next_arg};
+use little_endian::write;
+use slices::append;
+use store_args::{Arguments, Store, WrongArgument, given_by};
 use store_table::{COUNT_START, MODES_START, TOTAL_START};
 
-// Writes the mode, the length of the name and the name of the store that an argument gives, after those of k stores.
-fn fill_one(
-    arg: &[u8],
-    k: usize,
-    used: usize,
-    modes: &mut [u8],
-    lengths: &mut [u8],
-    names: &mut [u8],
-) -> One
-    requires { (k < length modes.old) × ((k < length lengths.old) × (used + 255 ≤ length names.old)) }
-    ensures { OneOf (given_by arg.now) k used (arrays modes.old lengths.old names.old) (arrays modes.new lengths.new names.new) result }
-{
-    match given_by(arg) {
-        Given::Wrong(fault) => One::Wrong(fault),
-        Given::Store { mode, end } => {
-            modes[k] = mode;
-            lengths[k] = end as u8;
-            One::Used(append(names, used, &arg[..end]))
+// Stores in the order of their arguments: how many, the mode of each, the length of each name, and the names, one after the other, up to
+// the end of the last.
+#[derive(Drop)]
+struct Stores {
+    count: usize,
+    modes: [u8; 64],
+    lengths: [u8; 64],
+    end: usize,
+    names: [u8; 16_320],
+}
+
+impl Stores {
+    // No stores.
+    fn new() -> Stores
+        ensures { Hold [] result }
+    {
+        Stores {
+            count: 0,
+            modes: [0; 64],
+            lengths: [0; 64],
+            end: 0,
+            names: [0; 16_320],
         }
+    }
+
+    // Adds a store after those that are there.
+    fn push(&mut self, store: Store<'_>)
+        requires { Room self.old (length store.name.now) }
+        ensures { (es : List Entry) → Hold es self.old → Hold (es ++ (entry store.entry ∷ [])) self.new }
+    {
+        self.modes[self.count] = store.mode;
+        self.lengths[self.count] = store.name.len() as u8;
+        self.end = append(&mut self.names, self.end, store.name);
+        self.count += 1;
+    }
+
+    // Writes the table of the stores, and answers where it ends.
+    fn write(&self, table: &mut [u8]) -> usize
+        requires { (self.now.count ≤ 64) × ((self.now.end ≤ 16_320) × (16_452 ≤ length table.old)) }
+        ensures { Written self.now table.new result }
+    {
+        write::<2>(table, COUNT_START, self.count as u64);
+        write::<2>(table, TOTAL_START, self.end as u64);
+        let modes_end = append(table, MODES_START, &self.modes[..self.count]);
+        let lengths_end = append(table, modes_end, &self.lengths[..self.count]);
+        append(table, lengths_end, &self.names[..self.end])
     }
 }
 
-// Writes the modes, the lengths of the names and the names of at most 64 stores.
-fn fill(args: &[u8], modes: &mut [u8], lengths: &mut [u8], names: &mut [u8]) -> Filled
-    requires { (length (arguments_in args.now) ≤ 64) × ((64 ≤ length modes.old) × ((64 ≤ length lengths.old) × (16_320 ≤ length names.old))) }
-    ensures { FilledBy (stores_in args.now) (arrays modes.new lengths.new names.new) result }
+// The stores that at most 64 arguments give.
+fn stores_of(args: &[u8]) -> Result<Stores, WrongArgument>
+    requires { length (arguments_in args.now) ≤ 64 }
+    ensures { MatchResult result (λ stores. (es : List Entry) × ((stores_in args.now ≡ Ok es) × Hold es stores)) (λ w. stores_in args.now ≡ Err w) }
 {
-    let mut k = 0;
-    let mut at = 0;
-    let mut used = 0;
-    while at < args.len() {
-        let stop = mark_at(args, at, 0);
-        match fill_one(&args[at..stop], k, used, modes, lengths, names) {
-            One::Wrong(fault) => {
-                return Filled::Wrong {
-                    index: k + 1,
+    let mut stores = Stores::new();
+    for arg in Arguments(args) {
+        // A match, since the proof does not close over `map_err` and `?` here: what the closure answers stays hidden at the `?`.
+        let store = match given_by(arg) {
+            Ok(store) => store,
+            Err(fault) => {
+                return Err(WrongArgument {
+                    index: stores.count + 1,
                     fault,
-                };
+                });
             }
-            One::Used(end) => {
-                used = end;
-            }
-        }
-        at = next_arg(args, at);
-        k += 1;
+        };
+        stores.push(store);
     }
-    Filled::Stores { count: k, used }
+    Ok(stores)
 }
 
 // Makes the table of the stores that the arguments give, at most 64 of them.
-pub fn table_of(args: &[u8], table: &mut [u8]) -> Made
+pub fn table_of(args: &[u8], table: &mut [u8]) -> Result<usize, WrongArgument>
     requires { (length (arguments_in args.now) ≤ 64) × (16_452 ≤ length table.old) }
-    ensures { MadeOf (stores_in args.now) table.new result }
+    ensures { MatchResult result (λ n. TableAt (stores_in args.now) table.new n) (λ w. stores_in args.now ≡ Err w) }
 {
-    let mut modes = [0u8; 64];
-    let mut lengths = [0u8; 64];
-    let mut names = [0u8; 16_320];
-    match fill(args, &mut modes, &mut lengths, &mut names) {
-        Filled::Wrong { index, fault } => Made::Wrong { index, fault },
-        Filled::Stores { count, used } => {
-            write_u16(table, COUNT_START, count as u64);
-            write_u16(table, TOTAL_START, used as u64);
-            let modes_end = append(table, MODES_START, &modes[..count]);
-            let lengths_end = append(table, modes_end, &lengths[..count]);
-            Made::Table(append(table, lengths_end, &names[..used]))
-        }
-    }
+    let stores = stores_of(args)?;
+    Ok(stores.write(table))
 }

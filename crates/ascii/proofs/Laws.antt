@@ -1,2 +1,3 @@
 pub mod LettersLaws
 pub mod TestLaws
+pub mod EqualLaws

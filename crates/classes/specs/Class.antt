@@ -1,4 +1,4 @@
--- The class of a byte, by document 01's rule. Assumes nothing.
+-- The class of a byte. Assumes nothing.
 use Rattle.std.specs.Prelude.{ℕ, Bool, cond, ◌||◌, eqb, leb}
 use Prim.Native.Char.{code}
 use Rattle.ascii.specs.Letters.{within, is_digit, is_letter}

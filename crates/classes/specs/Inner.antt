@@ -1,1 +1,2 @@
+pub mod ClassNumber
 pub mod ClassTable

@@ -4,66 +4,73 @@
 ghost use Rattle.std.specs.Prelude.{◌≡◌};
 ghost use Rattle.slices.specs.Text.{run_end};
 ghost use Rattle.classes.specs.Class.{class_of, of_class};
+ghost use Rattle.classes.specs.Inner.ClassNumber.{class_number};
 ghost use Rattle.classes.specs.Inner.ClassTable.{IsClassTable};
 
-// The classes, numbered in the order of the class rule.
-pub const BLANK: u8 = 0;
-
-pub const OPEN: u8 = 1;
-
-pub const CLOSE: u8 = 2;
-
-pub const COMMA: u8 = 3;
-
-pub const AMPERSAND: u8 = 4;
-
-pub const BAR: u8 = 5;
-
-pub const QUOTE: u8 = 6;
-
-pub const WORD: u8 = 7;
-
-pub const FOREIGN: u8 = 8;
-
-pub const STRAY: u8 = 9;
-
-const CLASSES: [u8; 256] = [
-    9, 9, 9, 9, 9, 9, 9, 9, 9, 0, 0, 0, 0, 0, 9, 9, 9, 9, 9, 9, 9, 9, 9, 9, 9, 9, 9, 9, 9, 9, 9, 9,
-    0, 9, 6, 9, 9, 9, 4, 6, 1, 2, 9, 9, 3, 7, 7, 9, 7, 7, 7, 7, 7, 7, 7, 7, 7, 7, 9, 9, 9, 9, 9, 9,
-    9, 7, 7, 7, 7, 7, 7, 7, 7, 7, 7, 7, 7, 7, 7, 7, 7, 7, 7, 7, 7, 7, 7, 7, 7, 7, 7, 9, 9, 9, 9, 7,
-    9, 7, 7, 7, 7, 7, 7, 7, 7, 7, 7, 7, 7, 7, 7, 7, 7, 7, 7, 7, 7, 7, 7, 7, 7, 7, 7, 9, 5, 9, 9, 9,
-    8, 8, 8, 8, 8, 8, 8, 8, 8, 8, 8, 8, 8, 8, 8, 8, 8, 8, 8, 8, 8, 8, 8, 8, 8, 8, 8, 8, 8, 8, 8, 8,
-    8, 8, 8, 8, 8, 8, 8, 8, 8, 8, 8, 8, 8, 8, 8, 8, 8, 8, 8, 8, 8, 8, 8, 8, 8, 8, 8, 8, 8, 8, 8, 8,
-    8, 8, 8, 8, 8, 8, 8, 8, 8, 8, 8, 8, 8, 8, 8, 8, 8, 8, 8, 8, 8, 8, 8, 8, 8, 8, 8, 8, 8, 8, 8, 8,
-    8, 8, 8, 8, 8, 8, 8, 8, 8, 8, 8, 8, 8, 8, 8, 8, 8, 8, 8, 8, 8, 8, 8, 8, 8, 8, 8, 8, 8, 8, 8, 8,
-];
-
-// The table, by value: an entry point copies it once and lends it to the functions below it.
-pub fn table() -> [u8; 256]
-    ensures { IsClassTable result }
-{
-    CLASSES
+// The classes of bytes.
+#[derive(Clone, Copy, PartialEq, Eq)]
+pub enum Class {
+    Blank,
+    Open,
+    Close,
+    Comma,
+    Ampersand,
+    Bar,
+    Quote,
+    Word,
+    Foreign,
+    Stray,
 }
 
-// The class of a byte, looked up in a table without faults.
-pub fn class_at(class: &[u8; 256], b: u8) -> u8
-    requires { IsClassTable class.now }
-    ensures { result ≡ class_of b }
+// One letter for each class, for the table.
+const B: Class = Class::Blank;
+
+const O: Class = Class::Open;
+
+const C: Class = Class::Close;
+
+const M: Class = Class::Comma;
+
+const A: Class = Class::Ampersand;
+
+const R: Class = Class::Bar;
+
+const Q: Class = Class::Quote;
+
+const W: Class = Class::Word;
+
+const F: Class = Class::Foreign;
+
+const S: Class = Class::Stray;
+
+static CLASSES: [Class; 256] = [
+    S, S, S, S, S, S, S, S, S, B, B, B, B, B, S, S, S, S, S, S, S, S, S, S, S, S, S, S, S, S, S, S,
+    B, S, Q, S, S, S, A, Q, O, C, S, S, M, W, W, S, W, W, W, W, W, W, W, W, W, W, S, S, S, S, S, S,
+    S, W, W, W, W, W, W, W, W, W, W, W, W, W, W, W, W, W, W, W, W, W, W, W, W, W, W, S, S, S, S, W,
+    S, W, W, W, W, W, W, W, W, W, W, W, W, W, W, W, W, W, W, W, W, W, W, W, W, W, W, S, R, S, S, S,
+    F, F, F, F, F, F, F, F, F, F, F, F, F, F, F, F, F, F, F, F, F, F, F, F, F, F, F, F, F, F, F, F,
+    F, F, F, F, F, F, F, F, F, F, F, F, F, F, F, F, F, F, F, F, F, F, F, F, F, F, F, F, F, F, F, F,
+    F, F, F, F, F, F, F, F, F, F, F, F, F, F, F, F, F, F, F, F, F, F, F, F, F, F, F, F, F, F, F, F,
+    F, F, F, F, F, F, F, F, F, F, F, F, F, F, F, F, F, F, F, F, F, F, F, F, F, F, F, F, F, F, F, F,
+];
+
+// The table.
+fn table() -> &'static [Class; 256]
+    ensures { IsClassTable result.now }
 {
-    class[b as usize]
+    &CLASSES
+}
+
+// The class of a byte.
+pub fn class_of(b: u8) -> Class
+    ensures { class_number result ≡ class_of b }
+{
+    table()[b as usize]
 }
 
 // Where the run of bytes of this class that begins at a position of the text ends.
-pub fn class_end(text: &[u8], at: usize, k: u8, class: &[u8; 256]) -> usize
-    requires { IsClassTable class.now }
-    ensures { result ≡ run_end (of_class k) text.now at }
+pub fn class_end(text: &[u8], at: usize, k: Class) -> usize
+    ensures { result ≡ run_end (of_class (class_number k)) text.now at }
 {
-    let mut i = at;
-    while i < text.len() {
-        if class_at(class, text[i]) != k {
-            return i;
-        }
-        i += 1;
-    }
-    i
+    slices::run_end(text, at, |b| class_of(b) == k)
 }

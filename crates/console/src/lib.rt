@@ -20,7 +20,8 @@ const ARG_BYTES: usize = 267;
 // 65 arguments, which is enough to detect too many, each with a 0 after it.
 pub const ARGS_BYTES: usize = 17_420;
 
-// Reads until the text is full or the input ends, and answers how many bytes were read.
+// Reads until the text is full or the input ends, and answers how many bytes were read. A loop over `read`: of what was read before
+// an error, the library's own methods say little.
 pub fn read_text<R: Read>(input: &mut R, text: &mut [u8]) -> io::Result<usize>
     ensures fits { IfOk result (λ size. size ≤ length text.new) }
     ensures read { IfOk result (λ size. Consumes (R.remaining input.old) (R.remaining input.new) (take size text.new)) }

@@ -3,3 +3,4 @@ pub mod AnswerLaws
 pub mod DecideLaws
 pub mod ReadDecideLaws
 pub mod WaitingLaws
+pub mod TestsLaws

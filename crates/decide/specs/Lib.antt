@@ -1,2 +1,3 @@
 pub mod Tests
 pub mod Decide
+pub mod Inner

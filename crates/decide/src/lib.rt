@@ -1,129 +1,105 @@
 // Deciding: whether the rule that an image holds says evict.
 #![tactic(auto)]
 
-ghost use Rattle.std.specs.Prelude.{◌≡◌, ◌≤◌};
+ghost use Rattle.std.specs.Prelude.{◌≡◌, ◌≤◌, None, Some, MatchResult};
 ghost use Rattle.rules.specs.Rule.{Rule};
 ghost use Rattle.rules.specs.Rule.{size as size_of};
 ghost use Rattle.image.specs.Decode.{cell_at};
 ghost use Rattle.image.specs.Inner.EncodedAt.{EncodedAt};
-ghost use Rattle.image.specs.Inner.Subtree.{ValidSubtree};
+ghost use Rattle.store_table.specs.Inner.Index.{Blank, IndexedAll};
 ghost use Rattle.evaluate.specs.Evict.{evict};
-ghost use Rattle.evaluate.specs.Inner.Known.{Prepared, env_in};
+ghost use Rattle.evaluate.specs.Inner.Known.{env_in};
+ghost use Rattle.decide.specs.Inner.StoresTest.{stores_test};
 ghost use Rattle.decide.specs.Decide.{decide_of};
 
-use confirmed::{mark_confirmed, ready_count};
+use confirmed::{Confirmed, mark_confirmed};
 use evaluate::evaluate;
-use evaluate::leaves::{EnvNumbers, say_leaves};
-use image::node_count;
-use image_test::is_image;
-use refusals::Refusal;
+use evaluate::leaves::Environment;
+use image::Image;
+use image_test::checked;
+use lookup::IndexedTable;
+use lookup::index::Index;
+use refusals::{Cause, Refusal};
 use store_index::twin_of;
-use store_table::{Twin, is_list, is_table};
+use store_table::Table;
 
-// What deciding answers.
-#[derive(Clone, Copy)]
+// What deciding answers: whether a recording goes or stays.
+#[derive(Clone, Copy, PartialEq, Eq)]
 pub enum Decision {
     Evict,
     Keep,
-    Refused(Refusal),
 }
 
-fn refuse(number: u8, place: usize) -> Decision
-    ensures { result ≡ Decision.Refused (record { number = number; place = place }) }
+// What the rule of an image of at most N nodes says.
+fn rule_says_within<const N: usize>(image: Image, environment: Environment) -> bool
+    requires { (image.nodes ≤ N) × (N ≤ 2048) }
+    ensures { (ρ : Rule) → size_of ρ ≡ image.entry.nodes → EncodedAt ρ (cell_at image.entry.bytes.now image.entry.nodes) 0 → result ≡ evict ρ (env_in environment.entry.confirmed.stores.table.bytes.now environment.entry.age environment.entry.confirmed.list.bytes.now) }
 {
-    Decision::Refused(Refusal { number, place })
+    let mut says = [0u8; N];
+    environment.say_leaves(image, &mut says);
+    evaluate(image.table(), 0, image.nodes, &says, 1)
 }
 
-// What the rule of an image of at most 64 nodes says.
-fn rule_says_64(
-    image: &[u8],
-    n: usize,
-    stores: &[u8],
-    list: &[u8],
-    view: EnvNumbers,
-    starts: &[u16; 64],
-    slots: &[u8; 512],
-    marks: &[u8; 64],
-) -> bool
-    requires { ValidSubtree image.now n 0 n × ((n ≤ 64) × Prepared stores.now list.now starts.now slots.now marks.now) }
-    ensures { (ρ : Rule) → size_of ρ ≡ n → EncodedAt ρ (cell_at image.now n) 0 → result ≡ evict ρ (env_in list.now view) }
+// What the rule of an image says: with an array of 64 numbers where they suffice, since one of 2,048 takes time to clear.
+fn rule_says(image: Image, environment: Environment) -> bool
+    ensures { (ρ : Rule) → size_of ρ ≡ image.entry.nodes → EncodedAt ρ (cell_at image.entry.bytes.now image.entry.nodes) 0 → result ≡ evict ρ (env_in environment.entry.confirmed.stores.table.bytes.now environment.entry.age environment.entry.confirmed.list.bytes.now) }
 {
-    let mut says = [0u8; 64];
-    say_leaves(
-        image, n, stores, list, view, starts, slots, marks, &mut says,
-    );
-    evaluate(image, n, 0, n, &says, 1)
-}
-
-// The same, for at most 2,048 nodes.
-fn rule_says_2048(
-    image: &[u8],
-    n: usize,
-    stores: &[u8],
-    list: &[u8],
-    view: EnvNumbers,
-    starts: &[u16; 64],
-    slots: &[u8; 512],
-    marks: &[u8; 64],
-) -> bool
-    requires { ValidSubtree image.now n 0 n × ((n ≤ 2048) × Prepared stores.now list.now starts.now slots.now marks.now) }
-    ensures { (ρ : Rule) → size_of ρ ≡ n → EncodedAt ρ (cell_at image.now n) 0 → result ≡ evict ρ (env_in list.now view) }
-{
-    let mut says = [0u8; 2048];
-    say_leaves(
-        image, n, stores, list, view, starts, slots, marks, &mut says,
-    );
-    evaluate(image, n, 0, n, &says, 1)
-}
-
-// What the rule of an image says.
-fn rule_says(
-    image: &[u8],
-    n: usize,
-    stores: &[u8],
-    list: &[u8],
-    view: EnvNumbers,
-    starts: &[u16; 64],
-    slots: &[u8; 512],
-    marks: &[u8; 64],
-) -> bool
-    requires { ValidSubtree image.now n 0 n × ((n ≤ 2048) × Prepared stores.now list.now starts.now slots.now marks.now) }
-    ensures { (ρ : Rule) → size_of ρ ≡ n → EncodedAt ρ (cell_at image.now n) 0 → result ≡ evict ρ (env_in list.now view) }
-{
-    if n <= 64 {
-        return rule_says_64(image, n, stores, list, view, starts, slots, marks);
+    if image.nodes <= 64 {
+        return rule_says_within::<64>(image, environment);
     }
-    rule_says_2048(image, n, stores, list, view, starts, slots, marks)
+    rule_says_within::<2048>(image, environment)
 }
 
-// Decides on the rule of an image: evict or keep, or the first of the refusals 16 to 19.
-pub fn decide(image: &[u8], stores: &[u8], age: u64, list: &[u8]) -> Decision
+// The table that stores are, which is then indexed; or the refusal of what is no table, or has two stores of one name.
+pub fn indexed_stores<'a>(stores: &'a [u8], index: &mut Index) -> Result<Table<'a>, Refusal>
+    requires { Blank index.old.slots }
+    ensures { MatchResult result (λ t. (stores_test stores.now ≡ None) × ((t.bytes.now ≡ stores.now) × IndexedAll stores.now index.new.starts index.new.slots)) (λ f. stores_test stores.now ≡ Some f) }
+{
+    let Some(table) = Table::of_stores(stores) else {
+        return Err(Cause::BadStoreTable.at(0));
+    };
+    if let Some(place) = twin_of(table, index) {
+        return Err(Cause::TwinName.at(place));
+    }
+    Ok(table)
+}
+
+// Decides on the rule of an image: evict or keep, or the first of the refusals of image, stores and list.
+pub fn decide<'a>(
+    image: &[u8],
+    stores: &'a [u8],
+    age: u64,
+    list: &'a [u8],
+) -> Result<Decision, Refusal>
     ensures { result ≡ decide_of image.now stores.now age list.now }
 {
-    if !is_image(image) {
-        return refuse(refusals::BAD_IMAGE, 0);
-    }
-    if !is_table(stores) {
-        return refuse(refusals::BAD_STORE_TABLE, 0);
-    }
-    let mut starts = [0u16; 64];
-    let mut slots = [0u8; 512];
-    if let Twin::At(i) = twin_of(stores, &mut starts, &mut slots) {
-        return refuse(refusals::TWIN_NAME, i);
-    }
-    if !is_list(list) {
-        return refuse(refusals::BAD_CONFIRMED_LIST, 0);
-    }
-    let mut marks = [0u8; 64];
-    mark_confirmed(stores, list, &starts, &slots, &mut marks);
-    let n = node_count(image);
-    let view = EnvNumbers {
-        age,
-        ready: ready_count(stores, &marks),
+    let Some(image) = checked(image) else {
+        return Err(Cause::BadImage.at(0));
     };
-    if rule_says(image, n, stores, list, view, &starts, &slots, &marks) {
-        Decision::Evict
+    let mut index = Index::new();
+    let table = indexed_stores(stores, &mut index)?;
+    let Some(list) = Table::of_list(list) else {
+        return Err(Cause::BadConfirmedList.at(0));
+    };
+    let stores = IndexedTable {
+        table,
+        index: &index,
+    };
+    let mut marks = [false; 64];
+    mark_confirmed(stores, list, &mut marks);
+    let confirmed = Confirmed {
+        stores,
+        list,
+        marks: &marks,
+    };
+    let environment = Environment {
+        age,
+        confirmed,
+        ready: confirmed.ready_count(),
+    };
+    if rule_says(image, environment) {
+        Ok(Decision::Evict)
     } else {
-        Decision::Keep
+        Ok(Decision::Keep)
     }
 }

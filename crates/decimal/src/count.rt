@@ -2,7 +2,7 @@
 ghost use Rattle.std.specs.Prelude.{◌≡◌};
 ghost use Rattle.decimal.specs.Count.{sign_end, count_of};
 
-use crate::{Parsed, digit_of};
+use crate::digit_of;
 use ascii::is_digit;
 
 // Where the digits of a count begin: after a `+`, if there is one.
@@ -19,26 +19,24 @@ fn sign_end(word: &[u8]) -> usize
 }
 
 // A count: an optional `+`, then one or more digits, at most 2^64 - 1.
-pub fn parse_count(word: &[u8]) -> Parsed
+pub fn parse_count(word: &[u8]) -> Option<u64>
     ensures { result ≡ count_of word.now }
 {
     let start = sign_end(word);
     if word.len() <= start {
-        return Parsed::Invalid;
+        return None;
     }
     let mut value: u64 = 0;
-    let mut i = start;
-    while i < word.len() {
+    for i in start..word.len() {
         let b = word[i];
         if !is_digit(b) {
-            return Parsed::Invalid;
+            return None;
         }
         let digit = digit_of(b);
         if (18_446_744_073_709_551_615 - digit) / 10 < value {
-            return Parsed::Invalid;
+            return None;
         }
         value = value * 10 + digit;
-        i += 1;
     }
-    Parsed::Value(value)
+    Some(value)
 }

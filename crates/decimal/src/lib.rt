@@ -8,13 +8,6 @@ ghost use Rattle.std.specs.Prelude.{◌≡◌, true};
 ghost use Rattle.ascii.specs.Letters.{is_digit};
 ghost use Rattle.decimal.specs.Decimal.{digit_value};
 
-// What a word is read as: a number, or none.
-#[derive(Clone, Copy)]
-pub enum Parsed {
-    Value(u64),
-    Invalid,
-}
-
 // The number that a digit writes.
 pub fn digit_of(b: u8) -> u64
     requires { is_digit b ≡ true }

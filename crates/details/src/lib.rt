@@ -5,16 +5,15 @@ ghost use Rattle.std.specs.Prelude.{min, ◌+◌, ◌≤◌, length};
 ghost use Rattle.slices.specs.Text.{WrittenAt};
 ghost use Rattle.grammar.specs.Reading.{read_of};
 ghost use Rattle.store_table.specs.Stores.{entries_in, write_only_names};
-ghost use Rattle.store_table.specs.Inner.Bounds.{TableInBounds};
 ghost use Rattle.lines.specs.Lines.{text_end, marked_line, shown_all};
 ghost use Rattle.page_text.specs.Report.{node_name, confirmed_lines};
 
-use image::{name_of, node_at, node_count};
+use image::Image;
 use lines::{append_marked, append_shown};
 use page_text::append_confirmed;
-use read::{IMAGE_BYTES, Reading};
+use read::IMAGE_BYTES;
 use slices::end_of_last;
-use store_table::{WRITE_ONLY, count_of, length_at, mode_at, names_start};
+use store_table::{Table, WRITE_ONLY};
 
 // The line of a text that has a place in it, marked there, or after the text's last visible byte.
 pub fn append_place(page: &mut [u8], at: usize, text: &[u8], place: usize) -> usize
@@ -34,40 +33,31 @@ pub fn append_node(page: &mut [u8], at: usize, text: &[u8], index: usize) -> usi
     ensures { WrittenAt page.old page.new at result (shown_all (node_name (read_of text.now) index)) }
 {
     let mut image = [0u8; IMAGE_BYTES];
-    let Reading::Read(size) = read::read(text, &mut image) else {
+    let Ok(size) = read::read(text, &mut image) else {
         return at;
     };
-    let written = &image[..size];
-    let n = node_count(written);
-    if n <= index {
+    let rule = Image::of(&image[..size]);
+    if rule.nodes <= index {
         return at;
     }
-    let node = node_at(written, n, index);
-    let kind = node.kind;
-    let arg = node.arg;
-    let named = kind == image::NAMED;
+    let node = rule.node(index);
+    let named = node.kind == image::NAMED;
     if named {
-        return append_shown(page, at, name_of(written, n, arg));
+        return append_shown(page, at, rule.name(node.arg));
     }
     at
 }
 
 // A line for each write-only store.
-pub fn append_write_only(page: &mut [u8], at: usize, stores: &[u8]) -> usize
-    requires { TableInBounds stores.now × (at + length stores.now + 768 ≤ length page.old) }
-    ensures { WrittenAt page.old page.new at result (confirmed_lines (write_only_names (entries_in stores.now))) }
+pub fn append_write_only(page: &mut [u8], at: usize, stores: Table) -> usize
+    requires { at + length stores.bytes.now + 768 ≤ length page.old }
+    ensures { WrittenAt page.old page.new at result (confirmed_lines (write_only_names (entries_in stores.entry.bytes.now))) }
 {
-    let count = count_of(stores);
-    let mut k = 0;
-    let mut start = names_start(count);
     let mut end = at;
-    while k < count {
-        let len = length_at(stores, count, k);
-        if mode_at(stores, k) == WRITE_ONLY {
-            end = append_confirmed(page, end, &stores[start..start + len]);
+    for place in stores.entries() {
+        if stores.mode(place.index) == WRITE_ONLY {
+            end = append_confirmed(page, end, place.name);
         }
-        start += len;
-        k += 1;
     }
     end
 }

@@ -1,14 +1,11 @@
 -- Durations, as document 01's paragraph and document 02's Job 1 lay them down. Assumes nothing.
-use Rattle.std.specs.Prelude.{ℕ, ◌+◌, ◌*◌, Bool, cond, not, ◌&&◌, ◌||◌, List, [], ◌∷◌, leb, ltb, length}
+use Rattle.std.specs.Prelude.{ℕ, ◌+◌, ◌*◌, Bool, cond, not, ◌&&◌, ◌||◌, List, [], ◌∷◌, leb, ltb, length, Option, Some, None}
 use Prim.Native.String.{String}
 use Rattle.slices.specs.Text.{bytes, part, run_end}
 use Rattle.ascii.specs.Letters.{is_digit, equal, equal_by}
 use Rattle.classes.specs.Class.{of_class, blank}
 use Rattle.decimal.specs.Decimal.{decimal, decimal_from}
-use Rattle.decimal.specs.declared.Parsed.{Parsed}
-use Rattle.decimal.specs.declared.Parsed.TheVariants.{Value, Invalid}
 use Rattle.durations.specs.declared.duration.Part.{Part}
-use Rattle.durations.specs.declared.duration.Part.TheVariants.{Of, Not}
 
 -- a unit's name and its milliseconds
 pub record NamedUnit : Type 0 where
@@ -61,26 +58,26 @@ unfolding unit_end of_class
 next_part w at = run_end (of_class blank) w (unit_end w at)
 
 -- a part of this unit at a position: its milliseconds, and where the next part begins
-unfoldable pub part_at : NamedUnit → List ℕ → ℕ → Part
+unfoldable pub part_at : NamedUnit → List ℕ → ℕ → Option Part
 unfolding is_part amount_of next_part
-part_at u w at = cond (is_part u w at) (Of (amount_of u w at) (next_part w at)) Not
+part_at u w at = cond (is_part u w at) (Some (record { amount = amount_of u w at; next = next_part w at })) None
 
-abbrev pub plus : ℕ → Parsed → Parsed
-plus n (Value m) = Value (n + m)
-plus n Invalid = Invalid
+abbrev pub plus : ℕ → Option ℕ → Option ℕ
+plus n (Some m) = Some (n + m)
+plus n None = None
 
 -- a part, and those after it unless the word ends there; where there is none, the later units' parts from the same position
-abbrev pub part_then : Part → ℕ → ℕ → (ℕ → Parsed) → Parsed
-part_then (Of n next) len at later = cond (ltb next len) (plus n (later next)) (Value n)
-part_then Not len at later = later at
+abbrev pub part_then : Option Part → ℕ → ℕ → (ℕ → Option ℕ) → Option ℕ
+part_then (Some p) len at later = cond (ltb p.next len) (plus p.amount (later p.next)) (Some p.amount)
+part_then None len at later = later at
 
 -- "Units fall in that order, each at most once": one or more parts, of these units
-unfoldable pub parts_from : List NamedUnit → List ℕ → ℕ → Parsed
+unfoldable pub parts_from : List NamedUnit → List ℕ → ℕ → Option ℕ
 unfolding part_at
-parts_from [] w at = Invalid
+parts_from [] w at = None
 parts_from (u ∷ us) w at = part_then (part_at u w at) (length w) at (parts_from us w)
 
 -- "After trimming blanks: one or more parts"
-unfoldable pub duration_of : List ℕ → Parsed
+unfoldable pub duration_of : List ℕ → Option ℕ
 unfolding parts_from
 duration_of w = parts_from units w (run_end (of_class blank) w 0)

@@ -3,11 +3,10 @@ ghost use Rattle.std.specs.Prelude.{◌<◌, length};
 ghost use Rattle.durations.specs.Duration.{units};
 ghost use Rattle.durations.specs.Inner.Units.{unit_at, IsUnit};
 
-// A unit of time: its name, of which the first `len` bytes count, and its milliseconds.
+// A unit of time: its name and its milliseconds.
 #[derive(Clone, Copy)]
 pub struct TimeUnit {
-    pub name: [u8; 2],
-    pub len: usize,
+    pub name: &'static [u8],
     pub milliseconds: u64,
 }
 
@@ -21,33 +20,27 @@ pub fn time_unit(rank: usize) -> TimeUnit
 {
     match rank {
         0 => TimeUnit {
-            name: *b"w ",
-            len: 1,
+            name: b"w",
             milliseconds: 604_800_000,
         },
         1 => TimeUnit {
-            name: *b"d ",
-            len: 1,
+            name: b"d",
             milliseconds: 86_400_000,
         },
         2 => TimeUnit {
-            name: *b"h ",
-            len: 1,
+            name: b"h",
             milliseconds: 3_600_000,
         },
         3 => TimeUnit {
-            name: *b"m ",
-            len: 1,
+            name: b"m",
             milliseconds: 60_000,
         },
         4 => TimeUnit {
-            name: *b"s ",
-            len: 1,
+            name: b"s",
             milliseconds: 1_000,
         },
         _ => TimeUnit {
-            name: *b"ms",
-            len: 2,
+            name: b"ms",
             milliseconds: 1,
         },
     }

@@ -3,73 +3,47 @@ ghost use Rattle.std.specs.Prelude.{◌≡◌, ◌≤◌, length};
 ghost use Rattle.rules.specs.Rule.{Leaf};
 ghost use Rattle.image.specs.Kinds.{named_kind};
 ghost use Rattle.image.specs.Decode.{leaf_meaning, meaning};
-ghost use Rattle.image.specs.Inner.Subtree.{ValidSubtree, NameInside};
+ghost use Rattle.image.specs.Inner.Subtree.{NameInside};
+ghost use Rattle.store_table.specs.Stores.{entries_in, all_names, ready_count};
 ghost use Rattle.evaluate.specs.Evict.{leaf_says};
-ghost use Rattle.evaluate.specs.Inner.Known.{Prepared, env_in, Said};
+ghost use Rattle.evaluate.specs.Inner.Known.{env_in, Said};
 
-use confirmed::is_confirmed;
-use image::{is_leaf, name_of, node_at};
+use confirmed::Confirmed;
+use image::{Image, is_leaf};
 
-// What a decision looks at besides the list: the age, and how many readable stores are confirmed.
+// What a decision looks at: the age, which stores are confirmed, and how many of them are readable.
 #[derive(Clone, Copy)]
-pub struct EnvNumbers {
+pub struct Environment<'a> {
     pub age: u64,
+    pub confirmed: Confirmed<'a>,
     pub ready: u64,
+    pub ghost counted: { ready ≡ ready_count (entries_in confirmed.stores.table.bytes.now) (all_names (entries_in confirmed.list.bytes.now)) },
 }
 
-// What a leaf says: each kind by its own line.
-fn leaf_says(
-    image: &[u8],
-    n: usize,
-    kind: u32,
-    arg: u64,
-    stores: &[u8],
-    list: &[u8],
-    view: EnvNumbers,
-    starts: &[u16; 64],
-    slots: &[u8; 512],
-    marks: &[u8; 64],
-) -> bool
-    requires { (kind ≡ named_kind → NameInside image.now n arg) × Prepared stores.now list.now starts.now slots.now marks.now }
-    ensures { (l : Leaf) → meaning image.now n kind arg ≡ leaf_meaning l → result ≡ leaf_says l (env_in list.now view) }
-{
-    match kind {
-        image::NAMED => is_confirmed(name_of(image, n, arg), stores, list, starts, slots, marks),
-        image::OLDER_THAN => arg <= view.age,
-        image::READABLE => arg <= view.ready,
-        _ => false,
+impl<'a> Environment<'a> {
+    // What a leaf says: each kind by its own line. The kinds are numbers, as an image has them.
+    fn leaf_says(self, image: Image, kind: u32, arg: u64) -> bool
+        requires { kind ≡ named_kind → NameInside image.bytes.now image.nodes arg }
+        ensures { (l : Leaf) → meaning image.entry.bytes.now image.entry.nodes kind arg ≡ leaf_meaning l → result ≡ leaf_says l (env_in self.entry.confirmed.stores.table.bytes.now self.entry.age self.entry.confirmed.list.bytes.now) }
+    {
+        match kind {
+            image::NAMED => self.confirmed.is_confirmed(image.name(arg)),
+            image::OLDER_THAN => arg <= self.age,
+            image::READABLE => arg <= self.ready,
+            _ => false,
+        }
     }
-}
 
-// Writes for each leaf of an image whether it says evict: 1 or 0.
-pub fn say_leaves(
-    image: &[u8],
-    n: usize,
-    stores: &[u8],
-    list: &[u8],
-    view: EnvNumbers,
-    starts: &[u16; 64],
-    slots: &[u8; 512],
-    marks: &[u8; 64],
-    says: &mut [u8],
-)
-    requires { ValidSubtree image.now n 0 n × ((n ≤ length says.old) × Prepared stores.now list.now starts.now slots.now marks.now) }
-    ensures { Said image.now n says.new 1 (env_in list.now view) }
-{
-    let mut i = 0;
-    while i < n {
-        let node = node_at(image, n, i);
-        let kind = node.kind;
-        let arg = node.arg;
-        if is_leaf(kind) {
-            if leaf_says(
-                image, n, kind, arg, stores, list, view, starts, slots, marks,
-            ) {
-                says[i] = 1;
-            } else {
-                says[i] = 0;
+    // Writes for each leaf of an image whether it says evict: 1 or 0, numbers that `evaluate` compares as it does a check's grades.
+    pub fn say_leaves(self, image: Image, says: &mut [u8])
+        requires { image.nodes ≤ length says.old }
+        ensures { Said image.entry.bytes.now image.entry.nodes says.new 1 (env_in self.entry.confirmed.stores.table.bytes.now self.entry.age self.entry.confirmed.list.bytes.now) }
+    {
+        for i in 0..image.nodes {
+            let node = image.node(i);
+            if is_leaf(node.kind) {
+                says[i] = u8::from(self.leaf_says(image, node.kind, node.arg));
             }
         }
-        i += 1;
     }
 }

@@ -12,7 +12,7 @@ ghost use Rattle.image.specs.Inner.Subtree.{NodeRow};
 ghost use Rattle.evaluate.specs.Evict.{join_says, count_true};
 ghost use Rattle.evaluate.specs.Inner.By.{evict_by, says_at};
 
-use image::node_at;
+use image::NodeTable;
 
 // What a combinator says if `yes` of its `total` children say evict: each kind by its own line.
 fn join_says(kind: u32, arg: u64, yes: u64, total: u64) -> bool
@@ -27,13 +27,13 @@ fn join_says(kind: u32, arg: u64, yes: u64, total: u64) -> bool
 }
 
 // What the rule says whose nodes are the `size` from `from` on, where a leaf says evict if its number is at least `least`. The
-// size falls at each call, and leaves need none.
-pub fn evaluate(image: &[u8], n: usize, from: usize, size: usize, says: &[u8], least: u8) -> bool
-    requires { NodeRow image.now n from size × (n ≤ length says.now) }
-    ensures { (ρ : Rule) → size_of ρ ≡ size → EncodedAt ρ (cell_at image.now n) from → result ≡ evict_by (says_at says.now least) ρ from }
+// size falls at each call, and leaves need none. It takes a table of nodes and no image, since it asks nothing of the names.
+pub fn evaluate(nodes: NodeTable, from: usize, size: usize, says: &[u8], least: u8) -> bool
+    requires { NodeRow nodes.bytes.now nodes.count from size × (nodes.count ≤ length says.now) }
+    ensures { (ρ : Rule) → size_of ρ ≡ size → EncodedAt ρ (cell_at nodes.entry.bytes.now nodes.entry.count) from → result ≡ evict_by (says_at says.now least) ρ from }
 {
     let at = from + size - 1;
-    let root = node_at(image, n, at);
+    let root = nodes.node(at);
     let kind = root.kind;
     let arg = root.arg;
     match kind {
@@ -43,7 +43,7 @@ pub fn evaluate(image: &[u8], n: usize, from: usize, size: usize, says: &[u8], l
             let mut yes: u64 = 0;
             let mut total: u64 = 0;
             while from < end {
-                let child = node_at(image, n, end - 1);
+                let child = nodes.node(end - 1);
                 let back = child.size;
                 end -= back;
                 if back == 1 {
@@ -51,7 +51,7 @@ pub fn evaluate(image: &[u8], n: usize, from: usize, size: usize, says: &[u8], l
                         yes += 1;
                     }
                 } else {
-                    if evaluate(image, n, end, back, says, least) {
+                    if evaluate(nodes, end, back, says, least) {
                         yes += 1;
                     }
                 }

@@ -1,20 +1,21 @@
--- What a token's tag says of it, where the program takes one variant out and has another before it. Assumes nothing.
+-- What a token's variant says of it, where the program takes one out and has another before it. Assumes nothing.
 use Prim.Native.Nat.{ℕ}
 use mathlib.Core.Path.{◌≡◌, refl, sym, subst, ◌∙◌}
 use mathlib.Core.Bool.{cond, not}
 use mathlib.Core.List.{List, [], ◌∷◌}
+use native.Mathlib.Omega.{arith}
 use lib.Dec.{T, eqb}
 use mir.Val.{has_key}
 use types.Run.{OneOf, miss}
 use denote.Enum.Declared.{tag_of}
-use Rattle.refusals.specs.Refusals.{no_expression}
+use Rattle.refusals.specs.declared.Cause.TheVariants.{NoExpression}
 use Rattle.tokens.specs.contracts.Token.{the_type}
 use Rattle.tokens.specs.Token.{place_of, token_at, tokens_from}
 use Rattle.tokens.specs.declared.Token.{Token}
 use Rattle.tokens.specs.declared.Token.TheVariants.{End, Open, Close, Comma, And, Or, Word, Fault}
-use Rattle.grammar.specs.Grammar.{token_kind, missing, after, other_token, expected_word, refuse, primary_start}
-use Rattle.classes.specs.Class.{open_bracket, comma, close_bracket}
-use Rattle.grammar.proofs.Laws.TokenListLaws.{after_off, word_missing}
+use Rattle.grammar.specs.Grammar.{token_kind, other_token, expected_word, refuse, primary_start}
+use Rattle.classes.specs.Class.{open_bracket}
+use Rattle.grammar.proofs.Laws.TokenListLaws.{word_missing}
 use Rattle.grammar.proofs.Laws.StartLaws.{head_none}
 
 tag_kind_lem : (t : Token) → tag_of the_type t ≡ token_kind t
@@ -24,7 +25,7 @@ tag_kind_lem (Close p n) = refl
 tag_kind_lem (Comma p n) = refl
 tag_kind_lem (And p n) = refl
 tag_kind_lem (Or p n) = refl
-tag_kind_lem (Word p a b q n) = refl
+tag_kind_lem (Word w) = refl
 tag_kind_lem (Fault f) = refl
 
 -- the keys but one, and all the tags but one
@@ -39,21 +40,31 @@ others k = without k (0 ∷ 1 ∷ 2 ∷ 3 ∷ 4 ∷ 5 ∷ 6 ∷ 7 ∷ [])
 pub not_kind : (ks : List ℕ) (k : ℕ) → T (not (has_key ks k)) → (t : Token) → OneOf ks (tag_of the_type t) → token_kind t ≡ k → ⊥
 not_kind ks k h t o e = miss ks k h (subst (OneOf ks) (tag_kind_lem t ∙ e) o)
 
--- the token at a position is no word, is not this sign, is neither a comma nor a closing bracket, begins no primary
-module _ (s : List ℕ) (at : ℕ) {t : Token} (e : t ≡ token_at s at) where
-  pub no_word : OneOf (others 6) (tag_of the_type t) → expected_word s (tokens_from s at) ≡ other_token (place_of t)
-  no_word o = word_missing s at (sym e) (not_kind (others 6) 6 tt t o)
+-- a token that is no word, or no opening bracket, is of another kind
+no_word_kind : (t : Token) → ((w : _) → t ≡ Word w → ⊥) → token_kind t ≡ 6 → ⊥
+no_word_kind (End p) h k = omega arith
+no_word_kind (Open p n) h k = omega arith
+no_word_kind (Close p n) h k = omega arith
+no_word_kind (Comma p n) h k = omega arith
+no_word_kind (And p n) h k = omega arith
+no_word_kind (Or p n) h k = omega arith
+no_word_kind (Word w) h k = h w refl
+no_word_kind (Fault f) h k = omega arith
 
-  pub no_sign : (k : ℕ) → T (not (has_key (others k) k)) → OneOf (others k) (tag_of the_type t) → after k (tokens_from s at) ≡ missing
-  no_sign k h o = after_off s at (sym e) k (not_kind (others k) k h t o)
+no_open_kind : (t : Token) → ((p n : ℕ) → t ≡ Open p n → ⊥) → token_kind t ≡ open_bracket → ⊥
+no_open_kind (End p) h k = omega arith
+no_open_kind (Open p n) h k = h p n refl
+no_open_kind (Close p n) h k = omega arith
+no_open_kind (Comma p n) h k = omega arith
+no_open_kind (And p n) h k = omega arith
+no_open_kind (Or p n) h k = omega arith
+no_open_kind (Word w) h k = omega arith
+no_open_kind (Fault f) h k = omega arith
 
-  pub no_comma_close : OneOf (without comma (others close_bracket)) (tag_of the_type t) →
-      (after comma (tokens_from s at) ≡ missing) × (after close_bracket (tokens_from s at) ≡ missing)
-  no_comma_close o =
-      let ks = without comma (others close_bracket) in
-      (after_off s at (sym e) comma (not_kind ks comma tt t o), after_off s at (sym e) close_bracket (not_kind ks close_bracket tt t o))
+-- the token at a position is no word, or begins no primary
+module _ (s : List ℕ) (at : ℕ) {t : Token} (e : t ≡ token_at s at) (w : (x : _) → t ≡ Word x → ⊥) where
+  pub no_word : expected_word s (tokens_from s at) ≡ other_token (place_of t)
+  no_word = word_missing s at (sym e) (no_word_kind t w)
 
-  pub no_primary : (d : ℕ) → OneOf (without open_bracket (others 6)) (tag_of the_type t) → primary_start s d (tokens_from s at) ≡ refuse no_expression (place_of t)
-  no_primary d o =
-      let ks = without open_bracket (others 6) in
-      head_none s d at (sym e) (not_kind ks open_bracket tt t o) (not_kind ks 6 tt t o)
+  pub no_primary : (d : ℕ) → ((p n : ℕ) → t ≡ Open p n → ⊥) → primary_start s d (tokens_from s at) ≡ refuse NoExpression (place_of t)
+  no_primary d o = head_none s d at (sym e) (no_open_kind t o) (no_word_kind t w)

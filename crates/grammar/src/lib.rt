@@ -2,20 +2,18 @@
 #![tactic(auto)]
 
 ghost use Rattle.std.specs.Prelude.{◌≡◌};
-ghost use Rattle.refusals.specs.Refusals.{refusal};
 ghost use Rattle.grammar.specs.Grammar.{function_of};
 
 use ascii::eq_ignore_ascii_case;
-use refusals::Refusal;
 
 // A leaf that is no name, with its duration in milliseconds or its count.
-#[derive(Clone, Copy)]
+#[derive(Clone, Copy, PartialEq, Eq)]
 pub enum Test {
     OlderThan(u64),
     Readable(u64),
 }
 
-#[derive(Clone, Copy)]
+#[derive(Clone, Copy, PartialEq, Eq)]
 pub enum Combinator {
     AtLeast(u64),
     All,
@@ -23,8 +21,8 @@ pub enum Combinator {
 }
 
 // A store's name, as its part of the text; another leaf; a bracket; a function with a list, and the place of its word; each
-// with the position where the text continues. Or a refusal.
-#[derive(Clone, Copy)]
+// with the position where the text continues.
+#[derive(Clone, Copy, PartialEq, Eq)]
 pub enum PrimaryStart {
     Name {
         start: usize,
@@ -43,50 +41,64 @@ pub enum PrimaryStart {
         place: usize,
         next: usize,
     },
-    Refused(Refusal),
 }
 
-// A primary that does not begin, refused with a number at a place.
-pub fn refuse(number: u8, place: usize) -> PrimaryStart
-    ensures { result ≡ PrimaryStart.Refused (refusal number place) }
-{
-    PrimaryStart::Refused(Refusal { number, place })
-}
-
-// The function that a word names, in any case of letters.
-#[derive(Clone, Copy)]
+// A function of the grammar.
+#[derive(Clone, Copy, PartialEq, Eq)]
 pub enum Function {
     OlderThan,
     Readable,
     Any,
     All,
     AtLeast,
-    Unknown,
 }
 
-pub fn function_of(word: &[u8]) -> Function
+// A function's name, in lower case.
+#[derive(Clone, Copy)]
+struct Call {
+    name: &'static [u8],
+    function: Function,
+}
+
+static CALLS: [Call; 7] = [
+    Call {
+        name: b"older_than",
+        function: Function::OlderThan,
+    },
+    Call {
+        name: b"readable",
+        function: Function::Readable,
+    },
+    Call {
+        name: b"oneof",
+        function: Function::Any,
+    },
+    Call {
+        name: b"any",
+        function: Function::Any,
+    },
+    Call {
+        name: b"allof",
+        function: Function::All,
+    },
+    Call {
+        name: b"all",
+        function: Function::All,
+    },
+    Call {
+        name: b"at_least",
+        function: Function::AtLeast,
+    },
+];
+
+// The function that a word names, in any case of letters, if it names one.
+pub fn function_of(word: &[u8]) -> Option<Function>
     ensures { result ≡ function_of word.now }
 {
-    if eq_ignore_ascii_case(word, b"older_than") {
-        return Function::OlderThan;
+    for call in &CALLS {
+        if eq_ignore_ascii_case(word, call.name) {
+            return Some(call.function);
+        }
     }
-    if eq_ignore_ascii_case(word, b"readable") {
-        return Function::Readable;
-    }
-    if eq_ignore_ascii_case(word, b"oneof") {
-        return Function::Any;
-    }
-    if eq_ignore_ascii_case(word, b"any") {
-        return Function::Any;
-    }
-    if eq_ignore_ascii_case(word, b"allof") {
-        return Function::All;
-    }
-    if eq_ignore_ascii_case(word, b"all") {
-        return Function::All;
-    }
-    if eq_ignore_ascii_case(word, b"at_least") {
-        return Function::AtLeast;
-    }
-    Function::Unknown
+    None
 }

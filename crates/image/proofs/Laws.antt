@@ -10,3 +10,4 @@ pub mod TestLaws
 pub mod InsideLaws
 pub mod CellLaws
 pub mod KindLaws
+pub mod WholeLaws

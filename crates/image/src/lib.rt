@@ -1,19 +1,21 @@
 // The rule image: the kinds of nodes, an image written into a buffer, and a node and a name read from one.
 #![tactic(auto)]
 
-ghost use Rattle.std.specs.Prelude.{◌≡◌, ◌+◌, ◌*◌, ◌^◌, ◌≤◌, ◌<◌, length, take};
+ghost use Rattle.std.specs.Prelude.{◌≡◌, ℕ, true, ◌+◌, ◌*◌, ◌^◌, ◌≤◌, ◌<◌, length, map};
 ghost use Rattle.slices.specs.Text.{written};
 ghost use Rattle.little_endian.specs.Bytes.{packed};
 ghost use Rattle.image.specs.Layout.{node_count_in, name_byte_count_in, names_start, tag_kind, name_start, name_length, name_of};
 ghost use Rattle.image.specs.Encode.{tag, name_arg, image_of};
-ghost use Rattle.image.specs.Decode.{node_at};
+ghost use Rattle.image.specs.Decode.{node_at, decode};
 ghost use Rattle.image.specs.Inner.Leaves.{is_leaf};
-ghost use Rattle.image.specs.Inner.Valid.{node_of};
+ghost use Rattle.image.specs.Inner.Valid.{node_of, is_some};
 ghost use Rattle.image.specs.Inner.Subtree.{NameInside};
 
-use little_endian::{read_u16, read_u32, read_u64, write_u16, write_u32, write_u64};
+use little_endian::{read, write};
+use slices::append;
 
-// The kinds of nodes: document 01's numbers.
+// The kinds of nodes. They stay numbers, since the image has them as bytes that may be any, and a match on the number gives the
+// leaves, the combinators and everything unknown an arm each.
 pub const NAMED: u32 = 0;
 
 pub const OLDER_THAN: u32 = 1;
@@ -27,6 +29,7 @@ pub const ALL: u32 = 4;
 pub const ANY: u32 = 5;
 
 // Whether a node of this kind is a leaf.
+#[tactic(auto, unfolding(crate::specs::Inner::Leaves::is_leaf))]
 pub fn is_leaf(kind: u32) -> bool
     ensures { result ≡ is_leaf kind }
 {
@@ -70,60 +73,28 @@ pub fn name_length(arg: u64) -> u64
     arg % 65536
 }
 
-// Writes the first n tags, each in four bytes.
-fn write_tags(s: &mut [u8], at: usize, tags: &[u32], n: usize)
-    requires { (n ≤ length tags.now) × (at + 4 * n ≤ length s.old) }
-    ensures { s.new ≡ written s.old at (packed 4 (take n tags.now)) }
+// Writes numbers one after another, each in K bytes.
+fn write_numbers<const K: usize, N: Copy + Into<u64>>(s: &mut [u8], at: usize, numbers: &[N])
+    requires { at + K * length numbers.now ≤ length s.old }
+    ensures { (value : N → ℕ) → ((x : N) (y : ℕ) → N.converts x y → y ≡ value x) → s.new ≡ written s.old at (packed K (map value numbers.now)) }
 {
-    let mut i = 0;
-    while i < n {
-        write_u32(s, at + 4 * i, tags[i] as u64);
-        i += 1;
+    for (i, number) in numbers.iter().enumerate() {
+        write::<K>(s, at + K * i, (*number).into());
     }
 }
 
-// Writes the first n arguments, each in eight bytes.
-fn write_args(s: &mut [u8], at: usize, args: &[u64], n: usize)
-    requires { (n ≤ length args.now) × (at + 8 * n ≤ length s.old) }
-    ensures { s.new ≡ written s.old at (packed 8 (take n args.now)) }
+// Writes the image of nodes, of which these are the tags and the arguments, and of name bytes at the front of a buffer, and answers
+// its length.
+pub fn write_image(image: &mut [u8], tags: &[u32], args: &[u64], names: &[u8]) -> usize
+    requires { (length args.now ≡ length tags.now) × (names_start (length tags.now) + length names.now ≤ length image.old) }
+    ensures { (result ≡ names_start (length tags.now) + length names.now) × (image.new ≡ written image.old 0 (image_of (length tags.now) tags.now args.now names.now)) }
 {
-    let mut i = 0;
-    while i < n {
-        write_u64(s, at + 8 * i, args[i]);
-        i += 1;
-    }
-}
-
-// Writes the first m name bytes.
-fn write_names(s: &mut [u8], at: usize, names: &[u8], m: usize)
-    requires { (m ≤ length names.now) × (at + m ≤ length s.old) }
-    ensures { s.new ≡ written s.old at (take m names.now) }
-{
-    let mut i = 0;
-    while i < m {
-        s[at + i] = names[i];
-        i += 1;
-    }
-}
-
-// Writes the image of n nodes and m name bytes at the front of a buffer, and answers its length.
-pub fn write_image(
-    image: &mut [u8],
-    tags: &[u32],
-    args: &[u64],
-    names: &[u8],
-    n: usize,
-    m: usize,
-) -> usize
-    requires { (n ≤ length tags.now) × ((n ≤ length args.now) × ((m ≤ length names.now) × (names_start n + m ≤ length image.old))) }
-    ensures { (result ≡ names_start n + m) × (image.new ≡ written image.old 0 (image_of n (take n tags.now) (take n args.now) (take m names.now))) }
-{
-    write_u16(image, 0, n as u64);
-    write_u16(image, 2, m as u64);
-    write_tags(image, 4, tags, n);
-    write_args(image, 4 + 4 * n, args, n);
-    write_names(image, 4 + 12 * n, names, m);
-    4 + 12 * n + m
+    let n = tags.len();
+    write::<2>(image, 0, n as u64);
+    write::<2>(image, 2, names.len() as u64);
+    write_numbers::<4, u32>(image, 4, tags);
+    write_numbers::<8, u64>(image, 4 + 4 * n, args);
+    append(image, 4 + 12 * n, names)
 }
 
 // How many nodes an image has.
@@ -131,7 +102,7 @@ pub fn node_count(image: &[u8]) -> usize
     requires { 4 ≤ length image.now }
     ensures { (result ≡ node_count_in image.now) × (result < 2 ^ 16) }
 {
-    read_u16(image, 0) as usize
+    read::<2>(image, 0) as usize
 }
 
 // How many name bytes an image has.
@@ -139,7 +110,7 @@ pub fn name_byte_count(image: &[u8]) -> usize
     requires { 4 ≤ length image.now }
     ensures { (result ≡ name_byte_count_in image.now) × (result < 2 ^ 16) }
 {
-    read_u16(image, 2) as usize
+    read::<2>(image, 2) as usize
 }
 
 // Where the name bytes begin in an image of n nodes.
@@ -150,7 +121,8 @@ pub fn names_start(n: usize) -> usize
     4 + 12 * n
 }
 
-// A node as it lies in the image.
+// A node as it lies in the image. That a name's bytes lie there too, `NameInside`, is asked where they are read: it speaks of a node
+// and its image, and a node that holds its image could not be read from bytes that are still to be tested.
 #[derive(Clone, Copy)]
 pub struct Node {
     pub kind: u32,
@@ -159,13 +131,14 @@ pub struct Node {
 }
 
 // Node i of an image of n nodes.
+#[tactic(auto, unfolding(crate::specs::Decode::node_at))]
 pub fn node_at(image: &[u8], n: usize, i: usize) -> Node
     requires { (names_start n ≤ length image.now) × (i < n) }
     ensures { node_of result ≡ node_at image.now n i }
 {
-    let tag = read_u32(image, 4 + 4 * i);
+    let tag = read::<4>(image, 4 + 4 * i);
     let kind = (tag % 256) as u32;
-    let arg = read_u64(image, 4 + 4 * n + 8 * i);
+    let arg = read::<8>(image, 4 + 4 * n + 8 * i);
     Node {
         kind,
         size: (tag / 256) as usize,
@@ -181,4 +154,68 @@ pub fn name_of(image: &[u8], n: usize, arg: u64) -> &[u8]
     let start = 4 + 12 * n + (arg / 65536) as usize;
     let end = start + (arg % 65536) as usize;
     &image[start..end]
+}
+
+// The tags and arguments of so many nodes at the front of bytes, whatever they say.
+#[derive(Clone, Copy)]
+pub struct NodeTable<'a> {
+    pub bytes: &'a [u8],
+    pub count: usize,
+    pub ghost in_bounds: { names_start count ≤ length bytes.now },
+}
+
+impl<'a> NodeTable<'a> {
+    // Node i.
+    pub fn node(self, i: usize) -> Node
+        requires { i < self.count }
+        ensures { node_of result ≡ node_at self.entry.bytes.now self.entry.count i }
+    {
+        node_at(self.bytes, self.count, i)
+    }
+}
+
+// The image of a rule, and how many nodes it has.
+#[derive(Clone, Copy)]
+pub struct Image<'a> {
+    pub bytes: &'a [u8],
+    pub nodes: usize,
+    pub ghost rule: { is_some (decode bytes.now) ≡ true },
+    pub ghost counted: { nodes ≡ node_count_in bytes.now },
+}
+
+impl<'a> Image<'a> {
+    // The image that these bytes are, where they are known to be one.
+    pub fn of(bytes: &'a [u8]) -> Image<'a>
+        requires { is_some (decode bytes.now) ≡ true }
+        ensures { result.bytes.now ≡ bytes.now }
+    {
+        let nodes = node_count(bytes);
+        Image { bytes, nodes }
+    }
+
+    // Node i.
+    pub fn node(self, i: usize) -> Node
+        requires { i < self.nodes }
+        ensures { node_of result ≡ node_at self.entry.bytes.now self.entry.nodes i }
+    {
+        node_at(self.bytes, self.nodes, i)
+    }
+
+    // Its nodes alone, for what asks nothing of the names.
+    pub fn table(self) -> NodeTable<'a>
+        ensures { (result.bytes.now ≡ self.entry.bytes.now) × (result.count ≡ self.entry.nodes) }
+    {
+        NodeTable {
+            bytes: self.bytes,
+            count: self.nodes,
+        }
+    }
+
+    // The bytes of a name, from the argument of its node.
+    pub fn name(self, arg: u64) -> &'a [u8]
+        requires { NameInside self.bytes.now self.nodes arg }
+        ensures { result.now ≡ name_of self.entry.bytes.now self.entry.nodes arg }
+    {
+        name_of(self.bytes, self.nodes, arg)
+    }
 }

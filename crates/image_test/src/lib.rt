@@ -1,24 +1,26 @@
 // Whether bytes are a rule's image: forward passes over the nodes, no recursion.
 #![tactic(auto)]
 
-ghost use Rattle.std.specs.Prelude.{◌≡◌, ◌-◌, ◌≤◌, suc, ◌<◌, length};
+ghost use Rattle.std.specs.Prelude.{◌≡◌, MatchOption, false, ◌-◌, ◌≤◌, suc, ◌<◌, length};
 ghost use Rattle.std.proofs.Math.Option.{some};
 ghost use Rattle.rules.specs.Rule.{Rules};
 ghost use Rattle.image.specs.Layout.{names_start};
 ghost use Rattle.image.specs.Decode.{cell_at, split, build, bind, only, node_at, name_end, ends_at, decode};
 ghost use Rattle.image.specs.Inner.Valid.{BuiltUpTo, is_some};
 
-use image::{is_leaf, name_byte_count, name_length, name_start, names_start, node_at, node_count};
+use image::{
+    Image, NodeTable, is_leaf, name_byte_count, name_length, name_start, names_start, node_count,
+};
 use slices::ascii_from;
 
 // Whether the last of the rules that the first `end` nodes make are exactly the nodes from `from` on.
-fn children_fit(image: &[u8], n: usize, from: usize, end: usize) -> bool
-    requires { BuiltUpTo image.now n end × (from ≤ end) }
-    ensures { (rs : Rules) → build (cell_at image.now n) end ≡ some rs → result ≡ is_some (split rs (end - from)) }
+fn children_fit(nodes: NodeTable, from: usize, end: usize) -> bool
+    requires { BuiltUpTo nodes.bytes.now nodes.count end × (from ≤ end) }
+    ensures { (rs : Rules) → build (cell_at nodes.entry.bytes.now nodes.entry.count) end ≡ some rs → result ≡ is_some (split rs (end - from)) }
 {
     let mut at = end;
     while from < at {
-        let child = node_at(image, n, at - 1);
+        let child = nodes.node(at - 1);
         let back = child.size;
         let past = at - from < back;
         if past {
@@ -30,11 +32,11 @@ fn children_fit(image: &[u8], n: usize, from: usize, end: usize) -> bool
 }
 
 // Whether node i can follow the rules that the nodes before it make.
-fn node_fits(image: &[u8], n: usize, i: usize) -> bool
-    requires { BuiltUpTo image.now n i × (i < n) }
-    ensures { result ≡ is_some (build (cell_at image.now n) (suc i)) }
+fn node_fits(nodes: NodeTable, i: usize) -> bool
+    requires { BuiltUpTo nodes.bytes.now nodes.count i × (i < nodes.count) }
+    ensures { result ≡ is_some (build (cell_at nodes.entry.bytes.now nodes.entry.count) (suc i)) }
 {
-    let node = node_at(image, n, i);
+    let node = nodes.node(i);
     let kind = node.kind;
     let size = node.size;
     let arg = node.arg;
@@ -55,38 +57,36 @@ fn node_fits(image: &[u8], n: usize, i: usize) -> bool
             if i + 1 < size {
                 return false;
             }
-            children_fit(image, n, i + 1 - size, i)
+            children_fit(nodes, i + 1 - size, i)
         }
         _ => false,
     }
 }
 
-// Whether n nodes make exactly one rule.
-fn nodes_fit(image: &[u8], n: usize) -> bool
-    requires { (names_start n ≤ length image.now) × (0 < n) }
-    ensures { result ≡ is_some (bind (build (cell_at image.now n) n) only) }
+// Whether the nodes make exactly one rule.
+fn nodes_fit(nodes: NodeTable) -> bool
+    requires { 0 < nodes.count }
+    ensures { result ≡ is_some (bind (build (cell_at nodes.entry.bytes.now nodes.entry.count) nodes.entry.count) only) }
 {
-    let mut i = 0;
-    while i < n {
-        if !node_fits(image, n, i) {
+    let n = nodes.count;
+    for i in 0..n {
+        if !node_fits(nodes, i) {
             return false;
         }
-        i += 1;
     }
-    let root = node_at(image, n, n - 1);
+    let root = nodes.node(n - 1);
     let size = root.size;
     size == n
 }
 
-// Whether the names of n nodes follow one another and end at m.
-fn names_run(image: &[u8], n: usize, m: usize) -> bool
-    requires { (names_start n ≤ length image.now) × (n ≤ 2048) }
-    ensures { result ≡ ends_at (name_end (node_at image.now n) n) m }
+// Whether the names of the nodes follow one another and end at m.
+fn names_run(nodes: NodeTable, m: usize) -> bool
+    requires { nodes.count ≤ 2048 }
+    ensures { result ≡ ends_at (name_end (node_at nodes.entry.bytes.now nodes.entry.count) nodes.entry.count) m }
 {
-    let mut i = 0;
     let mut end: u64 = 0;
-    while i < n {
-        let node = node_at(image, n, i);
+    for i in 0..nodes.count {
+        let node = nodes.node(i);
         let kind = node.kind;
         let arg = node.arg;
         if kind == image::NAMED {
@@ -95,38 +95,49 @@ fn names_run(image: &[u8], n: usize, m: usize) -> bool
             }
             end += name_length(arg);
         }
-        i += 1;
     }
     end as usize == m
+}
+
+// The image that the bytes are, if they are one. Inlined, since an answer of this size goes through memory.
+#[inline]
+pub fn checked(bytes: &[u8]) -> Option<Image>
+    ensures { MatchOption result (is_some (decode bytes.now) ≡ false) (λ i. i.bytes.now ≡ bytes.now) }
+{
+    if bytes.len() < 4 {
+        return None;
+    }
+    let n = node_count(bytes);
+    let m = name_byte_count(bytes);
+    if n == 0 {
+        return None;
+    }
+    if 2048 < n {
+        return None;
+    }
+    if 2048 < m {
+        return None;
+    }
+    let start = names_start(n);
+    if bytes.len() != start + m {
+        return None;
+    }
+    if !ascii_from(bytes, start) {
+        return None;
+    }
+    let table = NodeTable { bytes, count: n };
+    if !names_run(table, m) {
+        return None;
+    }
+    if !nodes_fit(table) {
+        return None;
+    }
+    Some(Image { bytes, nodes: n })
 }
 
 // Whether the bytes are a rule's image.
 pub fn is_image(image: &[u8]) -> bool
     ensures { result ≡ is_some (decode image.now) }
 {
-    if image.len() < 4 {
-        return false;
-    }
-    let n = node_count(image);
-    let m = name_byte_count(image);
-    if n == 0 {
-        return false;
-    }
-    if 2048 < n {
-        return false;
-    }
-    if 2048 < m {
-        return false;
-    }
-    let start = names_start(n);
-    if image.len() != start + m {
-        return false;
-    }
-    if !ascii_from(image, start) {
-        return false;
-    }
-    if !names_run(image, n, m) {
-        return false;
-    }
-    nodes_fit(image, n)
+    checked(image).is_some()
 }

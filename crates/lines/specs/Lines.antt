@@ -2,7 +2,8 @@
 use Rattle.std.specs.Prelude.{ℕ, ◌-◌, cond, List, [], ◌∷◌, ◌++◌, eqb, length, take, replicate}
 use Rattle.slices.specs.Text.{bytes, part, run_end, other, end_of_last}
 use Rattle.ascii.specs.Letters.{within}
-use Rattle.refusals.specs.Refusals.{row_of}
+use Rattle.refusals.specs.Refusals.{word, meaning}
+use Rattle.refusals.specs.declared.Cause.{Cause}
 use Rattle.decimal.specs.Digits.{digits_of}
 
 abbrev pub line_end : List ℕ
@@ -12,18 +13,13 @@ line_end = 10 ∷ []
 abbrev pub numbers_line : List ℕ → ℕ → ℕ → List ℕ
 numbers_line w a b = w ++ (digits_of a ++ (bytes " " ++ (digits_of b ++ line_end)))
 
--- ---- a text without the blanks at its end
-
--- where its last byte above 32 ends
+-- where the last byte above 32 of a text ends
 abbrev pub text_end : List ℕ → ℕ
 text_end s = end_of_last (within 33 255) s (length s)
 
-abbrev pub trimmed : List ℕ → List ℕ
-trimmed s = take (text_end s) s
-
 -- a refusal's word, and what it means
-abbrev pub meaning_line : ℕ → List ℕ
-meaning_line number = trimmed (row_of number).word ++ (bytes ": " ++ (trimmed (row_of number).meaning ++ line_end))
+abbrev pub meaning_line : Cause → List ℕ
+meaning_line c = word c ++ (bytes ": " ++ (meaning c ++ line_end))
 
 -- ---- a place in a text
 

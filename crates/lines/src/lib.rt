@@ -1,12 +1,13 @@
-// Lines for a person: numbers, meanings, and a text with a mark under a place.
+// Lines for a person: numbers, meanings, and a text with a mark under a place. Each function takes a text and a position in it: a
+// struct that holds the lent text would add a clause to each function, on which text it holds, and take none away.
 #![tactic(auto)]
 
 ghost use Rattle.std.specs.Prelude.{◌≡◌, ◌++◌, ◌+◌, ◌≤◌, ◌*◌, length, replicate};
 ghost use Rattle.slices.specs.Text.{bytes, WrittenAt};
-ghost use Rattle.lines.specs.Lines.{line_end, numbers_line, trimmed, meaning_line, shown, shown_all, marked_line};
+ghost use Rattle.lines.specs.Lines.{line_end, numbers_line, meaning_line, shown, shown_all, marked_line};
 
 use decimal::digits::append_digits;
-use refusals::row_of;
+use refusals::Cause;
 use slices::{append, end_of_last, mark_at};
 
 // A line of a word and two numbers.
@@ -16,35 +17,22 @@ pub fn append_numbers(text: &mut [u8], at: usize, word: &[u8], a: u64, b: u64) -
 {
     let word_end = append(text, at, word);
     let a_end = append_digits(text, word_end, a);
-    text[a_end] = b' ';
-    let b_end = append_digits(text, a_end + 1, b);
-    text[b_end] = b'\n';
-    b_end + 1
-}
-
-// Appends a piece without the blanks at its end.
-fn append_trimmed(text: &mut [u8], at: usize, piece: &[u8]) -> usize
-    requires { at + length piece.now ≤ length text.old }
-    ensures { WrittenAt text.old text.new at result (trimmed piece.now) }
-{
-    let end = end_of_last(piece, piece.len(), 33, 255);
-    append(text, at, &piece[..end])
+    let blank_end = append(text, a_end, b" ");
+    let b_end = append_digits(text, blank_end, b);
+    append(text, b_end, b"\n")
 }
 
 // A line of a refusal's word and what it means.
-pub fn append_meaning(text: &mut [u8], at: usize, number: u8) -> usize
+pub fn append_meaning(text: &mut [u8], at: usize, cause: Cause) -> usize
     requires { at + 85 ≤ length text.old }
-    ensures { WrittenAt text.old text.new at result (meaning_line number) }
+    ensures { WrittenAt text.old text.new at result (meaning_line cause) }
 {
-    let row = row_of(number);
-    let word = row.word;
-    let meaning = row.meaning;
-    let word_end = append_trimmed(text, at, &word);
-    text[word_end] = b':';
-    text[word_end + 1] = b' ';
-    let meaning_end = append_trimmed(text, word_end + 2, &meaning);
-    text[meaning_end] = b'\n';
-    meaning_end + 1
+    let word = cause.word();
+    let meaning = cause.meaning();
+    let word_end = append(text, at, word.as_bytes());
+    let colon_end = append(text, word_end, b": ");
+    let meaning_end = append(text, colon_end, meaning.as_bytes());
+    append(text, meaning_end, b"\n")
 }
 
 // A byte as it is shown: a tab as a blank, and any other byte that does not print as a question mark.
@@ -52,16 +40,11 @@ pub fn append_meaning(text: &mut [u8], at: usize, number: u8) -> usize
 fn shown_byte(b: u8) -> u8
     ensures { result ≡ shown b }
 {
-    if b == 9 {
-        return b' ';
+    match b {
+        9 => b' ',
+        32..=126 => b,
+        _ => b'?',
     }
-    if b < 32 {
-        return b'?';
-    }
-    if b <= 126 {
-        return b;
-    }
-    b'?'
 }
 
 // Appends bytes as they are shown.
@@ -69,12 +52,10 @@ pub fn append_shown(text: &mut [u8], at: usize, piece: &[u8]) -> usize
     requires { at + length piece.now ≤ length text.old }
     ensures { WrittenAt text.old text.new at result (shown_all piece.now) }
 {
-    let mut i = 0;
-    while i < piece.len() {
-        text[at + i] = shown_byte(piece[i]);
-        i += 1;
+    for (i, b) in piece.iter().enumerate() {
+        text[at + i] = shown_byte(*b);
     }
-    at + i
+    at + piece.len()
 }
 
 // Appends a line with a mark after n blanks.
@@ -82,15 +63,9 @@ fn append_mark(text: &mut [u8], at: usize, n: usize) -> usize
     requires { at + n + 2 ≤ length text.old }
     ensures { WrittenAt text.old text.new at result (replicate n 32 ++ (bytes "^" ++ line_end)) }
 {
-    let mut i = 0;
-    while i < n {
-        text[at + i] = b' ';
-        i += 1;
-    }
-    let mark = at + i;
-    text[mark] = b'^';
-    text[mark + 1] = b'\n';
-    mark + 2
+    let mark = at + n;
+    text[at..mark].fill(b' ');
+    append(text, mark, b"^\n")
 }
 
 // The line of a rule that has a place in it, and a line with a mark under the place.
@@ -100,7 +75,7 @@ pub fn append_marked(text: &mut [u8], at: usize, rule: &[u8], place: usize) -> u
 {
     let start = end_of_last(rule, place, b'\n', b'\n');
     let stop = mark_at(rule, place, b'\n');
-    let line_end = append_shown(text, at, &rule[start..stop]);
-    text[line_end] = b'\n';
-    append_mark(text, line_end + 1, place - start)
+    let shown_end = append_shown(text, at, &rule[start..stop]);
+    let line_end = append(text, shown_end, b"\n");
+    append_mark(text, line_end, place - start)
 }

@@ -2,7 +2,7 @@
 ghost use Rattle.std.specs.Prelude.{◌≡◌, ◌<◌};
 ghost use Rattle.store_table.specs.Inner.Index.{key_of, hash_of};
 
-use little_endian::{read_u32, read_u64};
+use little_endian::read;
 
 // A number made of a name's first and last bytes.
 fn key_of(name: &[u8]) -> u64
@@ -10,13 +10,13 @@ fn key_of(name: &[u8]) -> u64
 {
     let n = name.len();
     if 8 <= n {
-        return read_u64(name, 0) / 2 + read_u64(name, n - 8) / 2;
+        return read::<8>(name, 0) / 2 + read::<8>(name, n - 8) / 2;
     }
     if 4 <= n {
-        return read_u32(name, 0) + 65536 * read_u32(name, n - 4);
+        return read::<4>(name, 0) + 65536 * read::<4>(name, n - 4);
     }
     if 1 <= n {
-        return name[0] as u64 + 256 * (name[n / 2] as u64) + 65536 * (name[n - 1] as u64);
+        return u64::from(name[0]) + 256 * u64::from(name[n / 2]) + 65536 * u64::from(name[n - 1]);
     }
     0
 }

@@ -1,150 +1,115 @@
-// Nodes and name bytes as the parser writes them into its arrays.
+// Nodes and name bytes as the parser appends them.
 #![tactic(auto)]
 
-ghost use Rattle.std.specs.Prelude.{◌≡◌, List, ◌++◌, ℕ, ◌+◌, ◌-◌, ◌≤◌, ◌<◌, length, set, take};
+ghost use Rattle.std.specs.Prelude.{◌≡◌, ◌+◌, ◌-◌, ◌≤◌, ◌<◌, length};
 ghost use Rattle.slices.specs.Text.{part};
-ghost use Rattle.refusals.specs.Refusals.{refusal};
-ghost use Rattle.rules.specs.Rule.{named};
+ghost use Rattle.rules.specs.Rule.{named, leaf};
 ghost use Rattle.image.specs.Encode.{tag, leaf_kind, leaf_arg, join_kind, join_arg};
 ghost use Rattle.grammar.specs.Inner.Starts.{leaf_of, join_of};
-ghost use Rattle.nodes.specs.Inner.Parses.{arrays, NameRoom, Written, JoinRoom, Joined};
+ghost use Rattle.nodes.specs.Inner.Parses.{Long, NameRoom, JoinRoom, Appended, pushed, joined, without_root};
 
 use grammar::{Combinator, Test};
-use image::{name_arg, tag_of};
-use refusals::Refusal;
+use image::{name_arg, tag_kind, tag_of};
 
-// Where the text continues, and how many nodes and name bytes have been written; or a refusal.
-#[derive(Clone, Copy)]
-pub enum ParseEnd {
-    Done { next: usize, n: usize, m: usize },
-    Refused(Refusal),
+// The first n nodes, each a tag and an argument, and the first m bytes of their names, in memory of a fixed size. Tags and arguments
+// have an array each, as in the image, to which each is written as it is.
+#[derive(Drop)]
+pub struct Nodes<const N: usize> {
+    pub tags: [u32; N],
+    pub args: [u64; N],
+    pub names: [u8; N],
+    pub n: usize,
+    pub m: usize,
 }
 
-pub fn refuse(number: u8, place: usize) -> ParseEnd
-    ensures { result ≡ ParseEnd.Refused (refusal number place) }
+// The kind and the argument of a leaf that is no name.
+fn test_entry(test: Test) -> (u32, u64)
+    ensures { (result.0 ≡ leaf_kind (leaf_of test)) × (result.1 ≡ leaf_arg (leaf_of test) 0) }
 {
-    ParseEnd::Refused(Refusal { number, place })
-}
-
-// The kind of a leaf that is no name.
-fn test_kind(t: Test) -> u32
-    ensures { result ≡ leaf_kind (leaf_of t) }
-{
-    match t {
-        Test::OlderThan(_) => image::OLDER_THAN,
-        Test::Readable(_) => image::READABLE,
+    match test {
+        Test::OlderThan(milliseconds) => (image::OLDER_THAN, milliseconds),
+        Test::Readable(count) => (image::READABLE, count),
     }
 }
 
-// Its argument.
-fn test_arg(t: Test) -> u64
-    ensures { result ≡ leaf_arg (leaf_of t) 0 }
+// The kind and the argument of a combinator.
+fn combinator_entry(combinator: Combinator) -> (u32, u64)
+    ensures { (result.0 ≡ join_kind (join_of combinator)) × (result.1 ≡ join_arg (join_of combinator)) }
 {
-    match t {
-        Test::OlderThan(milliseconds) => milliseconds,
-        Test::Readable(count) => count,
+    match combinator {
+        Combinator::AtLeast(count) => (image::AT_LEAST, count),
+        Combinator::All => (image::ALL, 0),
+        Combinator::Any => (image::ANY, 0),
     }
 }
 
-// The kind of a combinator.
-fn combinator_kind(c: Combinator) -> u32
-    ensures { result ≡ join_kind (join_of c) }
-{
-    match c {
-        Combinator::AtLeast(_) => image::AT_LEAST,
-        Combinator::All => image::ALL,
-        Combinator::Any => image::ANY,
+impl<const N: usize> Nodes<N> {
+    // No nodes yet.
+    pub fn new() -> Nodes<N>
+        ensures { (result.n ≡ 0) × (result.m ≡ 0) }
+    {
+        Nodes {
+            tags: [0; N],
+            args: [0; N],
+            names: [0; N],
+            n: 0,
+            m: 0,
+        }
     }
-}
 
-// Its argument.
-fn combinator_arg(c: Combinator) -> u64
-    ensures { result ≡ join_arg (join_of c) }
-{
-    match c {
-        Combinator::AtLeast(count) => count,
-        Combinator::All => 0,
-        Combinator::Any => 0,
+    // Appends a node: its kind, its size, its argument.
+    fn push(&mut self, kind: u32, size: usize, arg: u64)
+        requires { (self.old.n < N) × ((kind < 256) × (size ≤ 65536)) }
+        ensures { self.new ≡ pushed (tag kind size) arg self.old }
+    {
+        self.tags[self.n] = tag_of(kind, size);
+        self.args[self.n] = arg;
+        self.n += 1;
     }
-}
 
-// Writes node n: its kind, its size, its argument.
-fn push(tags: &mut [u32], args: &mut [u64], n: usize, kind: u32, size: usize, arg: u64)
-    requires { (n < length tags.old) × ((n < length args.old) × ((kind < 256) × (size ≤ 65536))) }
-    ensures { (tags.new ≡ set tags.old n (tag kind size)) × (args.new ≡ set args.old n arg) }
-{
-    tags[n] = tag_of(kind, size);
-    args[n] = arg;
-}
-
-// Writes a name, a part of the text, after the first m name bytes.
-fn write_name(text: &[u8], start: usize, end: usize, names: &mut [u8], m: usize)
-    requires { (start ≤ end) × ((end ≤ length text.now) × (m + (end - start) ≤ length names.old)) }
-    ensures { take (m + (end - start)) names.new ≡ take m names.old ++ part text.now start end }
-{
-    let mut i = start;
-    let mut j = m;
-    while i < end {
-        names[j] = text[i];
-        i += 1;
-        j += 1;
+    // Appends a name's node, and the name, a part of the text.
+    pub fn push_name(&mut self, text: &[u8], start: usize, end: usize)
+        requires { NameRoom text.now start end self.old }
+        ensures { Appended (leaf (named (part text.now start end))) self.old self.new }
+    {
+        let m = self.m;
+        let size = end - start;
+        // Parts of an array of const length are lent by way of a slice of it.
+        let names = &mut self.names[..];
+        names[m..m + size].copy_from_slice(&text[start..end]);
+        self.m = m + size;
+        self.push(image::NAMED, 1, name_arg(m, size));
     }
-}
 
-// Writes a name's node after the first n, and the name, a part of the text, after the first m name bytes.
-pub fn push_name(
-    text: &[u8],
-    start: usize,
-    end: usize,
-    next: usize,
-    tags: &mut [u32],
-    args: &mut [u64],
-    names: &mut [u8],
-    n: usize,
-    m: usize,
-) -> ParseEnd
-    requires { NameRoom text.now start end n m (arrays tags.old args.old names.old) }
-    ensures { Written (named (part text.now start end)) next n m (arrays tags.old args.old names.old) (arrays tags.new args.new names.new) result }
-{
-    let size = end - start;
-    write_name(text, start, end, names, m);
-    push(tags, args, n, image::NAMED, 1, name_arg(m, size));
-    ParseEnd::Done {
-        next,
-        n: n + 1,
-        m: m + size,
+    // Appends the node of a leaf that is no name.
+    pub fn push_test(&mut self, test: Test)
+        requires { self.old.n < N }
+        ensures { Appended (leaf (leaf_of test)) self.old self.new }
+    {
+        let (kind, arg) = test_entry(test);
+        self.push(kind, 1, arg);
     }
-}
 
-// Writes the node of a leaf that is no name after the first n; the names stay as they are.
-pub fn push_test(
-    test: Test,
-    next: usize,
-    tags: &mut [u32],
-    args: &mut [u64],
-    n: usize,
-    m: usize,
-) -> ParseEnd
-    requires { (n < length tags.old) × (n < length args.old) }
-    ensures { (w : List ℕ) → Written (leaf_of test) next n m (arrays tags.old args.old w) (arrays tags.new args.new w) result }
-{
-    push(tags, args, n, test_kind(test), 1, test_arg(test));
-    ParseEnd::Done { next, n: n + 1, m }
-}
+    // Appends a combinator's node, over those from `first` on.
+    pub fn push_combinator(&mut self, first: usize, combinator: Combinator)
+        requires { JoinRoom first self.old }
+        ensures nodes { self.new ≡ joined (join_of combinator) first self.old }
+        ensures long { Long self.new }
+    {
+        let (kind, arg) = combinator_entry(combinator);
+        let size = self.n - first + 1;
+        self.push(kind, size, arg);
+    }
 
-// Writes a combinator's node after the first n, over those from `first` on, and answers how many nodes there are then.
-pub fn push_combinator(
-    tags: &mut [u32],
-    args: &mut [u64],
-    first: usize,
-    n: usize,
-    combinator: Combinator,
-) -> usize
-    requires { JoinRoom first n tags.old args.old }
-    ensures { (result ≡ n + 1) × Joined (join_of combinator) first n tags.old args.old tags.new args.new }
-{
-    let kind = combinator_kind(combinator);
-    let arg = combinator_arg(combinator);
-    push(tags, args, n, kind, n - first + 1, arg);
-    n + 1
+    // Drops the last node, the root of a chain's left side, where it is of the chain's kind: the chain continues it.
+    pub fn drop_root(&mut self, kind: u32)
+        requires { (0 < self.old.n) × (self.old.n ≤ N) }
+        ensures nodes { self.new ≡ without_root kind self.old }
+        ensures long { Long self.new }
+    {
+        let continues = tag_kind(self.tags[self.n - 1]) == kind;
+        if continues {
+            self.n -= 1;
+        }
+    }
 }

@@ -8,7 +8,8 @@ use args_table::table_of;
 use page_text::append_argument;
 use report::append_judged;
 use slices::append;
-use store_args::{Made, TABLE_BYTES, count_args};
+use store_args::{TABLE_BYTES, count_args};
+use store_table::Table;
 
 // The bytes that any page fits in.
 pub const PAGE_BYTES: usize = 32_768;
@@ -27,10 +28,12 @@ pub fn report(text: &[u8], args: &[u8], page: &mut [u8]) -> usize
     }
     let mut table = [0u8; TABLE_BYTES];
     match table_of(args, &mut table) {
-        Made::Table(size) => {
-            let stores = &table[..size];
-            append_judged(page, text, stores, judge::judge(text, stores))
+        Ok(size) => {
+            let stores = Table {
+                bytes: &table[..size],
+            };
+            append_judged(page, text, stores, judge::judge(text, stores.bytes))
         }
-        Made::Wrong { index, fault } => append_argument(page, index, fault),
+        Err(wrong) => append_argument(page, wrong),
     }
 }

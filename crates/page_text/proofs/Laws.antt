@@ -4,3 +4,4 @@ pub mod PassLaws
 pub mod ReportLaws
 pub mod ShortLaws
 pub mod PageLaws
+pub mod CauseLaws

@@ -1,15 +1,16 @@
 -- What the program `rulejudge` prints of a rule's text and of stores given as arguments. Not of document 01. Assumes nothing.
-use Rattle.std.specs.Prelude.{ℕ, cond, List, [], ◌++◌, ltb, length}
+use Rattle.std.specs.Prelude.{ℕ, cond, List, [], ◌++◌, Result, Ok, Err, ltb, length}
 use Rattle.slices.specs.Text.{bytes}
 use Rattle.decimal.specs.Digits.{digits_of}
 use Rattle.lines.specs.Lines.{line_end}
 use Rattle.store_table.specs.Stores.{Entry}
 use Rattle.store_table.specs.TableBytes.{table_of}
 use Rattle.verdict.specs.Check.{judge_of}
-use Rattle.page_text.specs.Report.{detail, verdict_text}
+use Rattle.page_text.specs.Report.{detail_of, verdict_text}
 use Rattle.store_args.specs.declared.Fault.{Fault}
 use Rattle.store_args.specs.declared.Fault.TheVariants.{NoColon, NoMode, LongName, ForeignName}
-use Rattle.store_args.specs.Arguments.{Stores, stores, wrong_at, arguments_in, stores_in}
+use Rattle.store_args.specs.declared.WrongArgument.{WrongArgument}
+use Rattle.store_args.specs.Arguments.{arguments_in, stores_in}
 
 -- ---- bad arguments
 
@@ -19,19 +20,19 @@ fault_text NoMode = bytes "no such mode; it is read-write, read-only or write-on
 fault_text LongName = bytes "too long; a name has at most 255 bytes"
 fault_text ForeignName = bytes "a name has a byte that is not ASCII"
 
-abbrev pub argument_line : ℕ → Fault → List ℕ
-argument_line i f = bytes "argument " ++ (digits_of i ++ (bytes ": " ++ (fault_text f ++ line_end)))
+abbrev pub argument_line : WrongArgument → List ℕ
+argument_line w = bytes "argument " ++ (digits_of w.index ++ (bytes ": " ++ (fault_text w.fault ++ line_end)))
 
 -- ---- all of it
 
 -- the verdict on a text for some stores, and what it means
 unfoldable pub judged_text : List ℕ → List Entry → List ℕ
-unfolding detail table_of
+unfolding detail_of table_of
 judged_text text es = verdict_text text es (judge_of text (table_of es))
 
-abbrev pub report_by : List ℕ → Stores → List ℕ
-report_by text (wrong_at i f) = argument_line i f
-report_by text (stores es) = judged_text text es
+abbrev pub report_by : List ℕ → Result (List Entry) WrongArgument → List ℕ
+report_by text (Err w) = argument_line w
+report_by text (Ok es) = judged_text text es
 
 -- of a rule's text, and of arguments one after the other, each with a 0 after it
 unfoldable pub report_of : List ℕ → List ℕ → List ℕ

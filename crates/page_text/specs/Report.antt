@@ -1,25 +1,24 @@
 -- A verdict on a rule's text, and what it means, as a person reads it. Not of document 01. Assumes nothing.
-use Rattle.std.specs.Prelude.{ℕ, suc, min, cond, List, [], ◌∷◌, ◌++◌, eqb, get_or}
+use Rattle.std.specs.Prelude.{ℕ, suc, min, List, [], ◌∷◌, ◌++◌, get_or, Ok, Err}
 use Rattle.slices.specs.Text.{bytes}
-use Rattle.ascii.specs.Letters.{within}
 use Rattle.refusals.specs.declared.Refusal.{Refusal}
-use Rattle.refusals.specs.Refusals.{foreign_byte, too_deep, twin_name, unknown_store, unconfirmed, archive_only}
+use Rattle.refusals.specs.declared.Cause.TheVariants.{ShortBuffer, LongText, BadImage, BadStoreTable, TwinName, BadConfirmedList, UnknownStore, Unconfirmed, ArchiveOnly}
+use Rattle.refusals.specs.declared.Cause.{Cause}
 use Rattle.decimal.specs.Digits.{digits_of}
 use Rattle.lines.specs.Lines.{line_end, meaning_line, text_end, shown_all, marked_line}
 use Rattle.rules.specs.Rule.{Rule, leaf, node, Rules, nil, more}
 use Rattle.image.specs.Encode.{leaf_name}
 use Rattle.grammar.specs.Reading.{Read, rule, refused, read_of}
 use Rattle.store_table.specs.Stores.{Entry, write_only_names}
-use Rattle.verdict.specs.declared.Verdict.{Verdict}
-use Rattle.verdict.specs.declared.Verdict.TheVariants.{Pass, Refused}
+use Rattle.verdict.specs.Verdict.{Verdict}
 use Rattle.verdict.specs.Check.{oldest}
 use Rattle.read_line.specs.Reading.{refusal_line}
 
 -- ---- the first line: `pass` or `no NUMBER PLACE`
 
 abbrev pub verdict_line : Verdict → List ℕ
-verdict_line Pass = bytes "pass" ++ line_end
-verdict_line (Refused f) = refusal_line f
+verdict_line (Ok u) = bytes "pass" ++ line_end
+verdict_line (Err f) = refusal_line f
 
 -- ---- what a refusal is about
 
@@ -51,18 +50,24 @@ unfolding shown_all
 confirmed_lines [] = []
 confirmed_lines (n ∷ ns) = confirmed_line n ++ confirmed_lines ns
 
--- 3 to 15: the line of the text, and a mark under the place, or at the text's end where it ends too early; 18: which argument; 20: the
--- name; 21 and 22: the confirmations and the age at which the rule says evict
-unfoldable pub detail : List ℕ → List Entry → Refusal → List ℕ
+-- by the cause of a refusal, and its place: of two stores of one name, which argument; of an unknown store, the name; where the rule
+-- says evict, the confirmations and the age; of a text or bytes as a whole, nothing; of any other cause, the line of the text, and a
+-- mark under the place, or at the text's end where it ends too early
+unfoldable pub detail_of : List ℕ → List Entry → Cause → ℕ → List ℕ
 unfolding marked_line confirmed_lines
-detail text es f =
-    let n = f.number in
-    cond (within foreign_byte too_deep n) (marked_line text (min f.place (text_end text)))
-    (cond (eqb n twin_name) (bytes "argument " ++ (digits_of (suc f.place) ++ line_end))
-    (cond (eqb n unknown_store) (shown_all (node_name (read_of text) f.place) ++ line_end)
-    (cond (eqb n unconfirmed) (bytes "confirmed: nothing" ++ (line_end ++ age_line))
-    (cond (eqb n archive_only) (confirmed_lines (write_only_names es) ++ age_line)
-    []))))
+detail_of text es TwinName p = bytes "argument " ++ (digits_of (suc p) ++ line_end)
+detail_of text es UnknownStore p = shown_all (node_name (read_of text) p) ++ line_end
+detail_of text es Unconfirmed p = bytes "confirmed: nothing" ++ (line_end ++ age_line)
+detail_of text es ArchiveOnly p = confirmed_lines (write_only_names es) ++ age_line
+detail_of text es ShortBuffer p = []
+detail_of text es LongText p = []
+detail_of text es BadImage p = []
+detail_of text es BadStoreTable p = []
+detail_of text es BadConfirmedList p = []
+detail_of text es _ p = marked_line text (min p (text_end text))
+
+abbrev pub detail : List ℕ → List Entry → Refusal → List ℕ
+detail text es f = detail_of text es f.cause f.place
 
 -- ---- the lines after the first
 
@@ -71,8 +76,8 @@ pass_line [] = bytes "the rule reads; no stores are given to check it against" +
 pass_line (e ∷ es) = bytes "at any age, the rule says evict only if a readable store has confirmed" ++ line_end
 
 abbrev pub explained : List ℕ → List Entry → Verdict → List ℕ
-explained text es Pass = pass_line es
-explained text es (Refused f) = meaning_line f.number ++ detail text es f
+explained text es (Ok u) = pass_line es
+explained text es (Err f) = meaning_line f.cause ++ detail text es f
 
 -- a verdict on a text for some stores, and what it means
 abbrev pub verdict_text : List ℕ → List Entry → Verdict → List ℕ

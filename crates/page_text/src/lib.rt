@@ -1,10 +1,9 @@
 // What the page of `rulejudge` says: definitions, laws, and the lines that need no choice of a place, a node or a store.
 #![tactic(auto)]
 
-ghost use Rattle.std.specs.Prelude.{◌+◌, ◌≤◌, length};
+ghost use Rattle.std.specs.Prelude.{◌≡◌, ◌+◌, ◌≤◌, length};
 ghost use Rattle.slices.specs.Text.{WrittenAt};
 ghost use Rattle.store_table.specs.Stores.{entries_in};
-ghost use Rattle.store_table.specs.Inner.Bounds.{TableInBounds};
 ghost use Rattle.page_text.specs.Report.{verdict_line, age_line, confirmed_line, pass_line};
 ghost use Rattle.page_text.specs.Page.{fault_text, argument_line};
 
@@ -12,8 +11,8 @@ use decimal::digits::append_digits;
 use lines::append_shown;
 use read_line::append_refusal;
 use slices::append;
-use store_args::Fault;
-use store_table::count_of;
+use store_args::{Fault, WrongArgument};
+use store_table::Table;
 use verdict::{OLDEST, Verdict};
 
 // The age at which 21 and 22 are tested.
@@ -42,17 +41,18 @@ pub fn append_verdict(page: &mut [u8], at: usize, v: Verdict) -> usize
     ensures { WrittenAt page.old page.new at result (verdict_line v) }
 {
     match v {
-        Verdict::Pass => append(page, at, b"pass\n"),
-        Verdict::Refused(f) => append_refusal(page, at, f),
+        Ok(()) => append(page, at, b"pass\n"),
+        Err(f) => append_refusal(page, at, f),
     }
 }
 
 // What a pass means: nothing was checked where there are no stores.
-pub fn append_pass(page: &mut [u8], at: usize, stores: &[u8]) -> usize
-    requires { TableInBounds stores.now × (at + 72 ≤ length page.old) }
-    ensures { WrittenAt page.old page.new at result (pass_line (entries_in stores.now)) }
+pub fn append_pass(page: &mut [u8], at: usize, stores: Table) -> usize
+    requires { at + 72 ≤ length page.old }
+    ensures { WrittenAt page.old page.new at result (pass_line (entries_in stores.entry.bytes.now)) }
 {
-    if count_of(stores) < 1 {
+    let none = stores.count() < 1;
+    if none {
         return append(
             page,
             at,
@@ -67,30 +67,25 @@ pub fn append_pass(page: &mut [u8], at: usize, stores: &[u8]) -> usize
 }
 
 // What is wrong with an argument.
-fn append_fault(page: &mut [u8], at: usize, fault: Fault) -> usize
-    requires { at + 64 ≤ length page.old }
-    ensures { WrittenAt page.old page.new at result (fault_text fault) }
+fn fault_text(fault: Fault) -> &'static [u8]
+    ensures { result.now ≡ fault_text fault }
 {
     match fault {
-        Fault::NoColon => append(page, at, b"no colon; a store is given as name:mode"),
-        Fault::NoMode => append(
-            page,
-            at,
-            b"no such mode; it is read-write, read-only or write-only",
-        ),
-        Fault::LongName => append(page, at, b"too long; a name has at most 255 bytes"),
-        Fault::ForeignName => append(page, at, b"a name has a byte that is not ASCII"),
+        Fault::NoColon => b"no colon; a store is given as name:mode",
+        Fault::NoMode => b"no such mode; it is read-write, read-only or write-only",
+        Fault::LongName => b"too long; a name has at most 255 bytes",
+        Fault::ForeignName => b"a name has a byte that is not ASCII",
     }
 }
 
 // The line of an argument that is wrong.
-pub fn append_argument(page: &mut [u8], index: usize, fault: Fault) -> usize
+pub fn append_argument(page: &mut [u8], wrong: WrongArgument) -> usize
     requires { 128 ≤ length page.old }
-    ensures { WrittenAt page.old page.new 0 result (argument_line index fault) }
+    ensures { WrittenAt page.old page.new 0 result (argument_line wrong) }
 {
     let word_end = append(page, 0, b"argument ");
-    let number_end = append_digits(page, word_end, index as u64);
+    let number_end = append_digits(page, word_end, wrong.index as u64);
     let colon_end = append(page, number_end, b": ");
-    let fault_end = append_fault(page, colon_end, fault);
+    let fault_end = append(page, colon_end, fault_text(wrong.fault));
     append(page, fault_end, b"\n")
 }

@@ -3,7 +3,6 @@
 
 ghost use Rattle.std.specs.Prelude.{◌≤◌, ◌+◌, ◌-◌, length};
 ghost use Rattle.slices.specs.Text.{part};
-ghost use Rattle.classes.specs.Inner.ClassTable.{IsClassTable};
 ghost use Rattle.tokens.specs.Token.{tokens_from};
 ghost use Rattle.grammar.specs.Grammar.{unquoted_start, after, word_start, primary_start};
 ghost use Rattle.classes.specs.Class.{open_bracket};
@@ -11,82 +10,68 @@ ghost use Rattle.grammar.specs.Inner.Starts.{left, Begins};
 
 use ascii::eq_ignore_ascii_case;
 use calls::call_start;
-use grammar::{PrimaryStart, Test, function_of, refuse};
+use classes::Class;
+use grammar::{PrimaryStart, Test, function_of};
+use refusals::{Cause, Refusal};
 use signs::{bracket_at, place_of};
-use tokens::{Next, Token, token_at, word_of};
+use tokens::{Token, Word, token_at, word_of};
 
 // An unquoted word that begins a primary: a function where a bracket follows it, else a leaf.
-fn unquoted_start(
-    text: &[u8],
-    depth: usize,
-    place: usize,
-    start: usize,
-    end: usize,
-    next: usize,
-    class: &[u8; 256],
-) -> PrimaryStart
-    requires { IsClassTable class.now × ((start ≤ end) × ((end ≤ next) × (next ≤ length text.now))) }
-    ensures { Begins text.now start next (left text.now next) result (unquoted_start text.now depth place (part text.now start end) (tokens_from text.now next) (after open_bracket (tokens_from text.now next))) }
+fn unquoted_start(text: &[u8], depth: usize, word: Word) -> Result<PrimaryStart, Refusal>
+    requires { (word.start ≤ word.end) × ((word.end ≤ word.next) × (word.next ≤ length text.now)) }
+    ensures { Begins text.now word.start word.next (left text.now word.next) result (unquoted_start text.now depth word.place (part text.now word.start word.end) (tokens_from text.now word.next) (after open_bracket (tokens_from text.now word.next))) }
 {
-    let word = word_of(text, start, end);
-    let Next::To(inside) = bracket_at(text, next, classes::OPEN, class) else {
-        if eq_ignore_ascii_case(word, b"readable") {
-            return PrimaryStart::Leaf {
+    let bytes = word_of(text, word.start, word.end);
+    let Some(inside) = bracket_at(text, word.next, Class::Open) else {
+        if eq_ignore_ascii_case(bytes, b"readable") {
+            return Ok(PrimaryStart::Leaf {
                 test: Test::Readable(1),
-                next,
-            };
+                next: word.next,
+            });
         }
-        return PrimaryStart::Name { start, end, next };
+        return Ok(PrimaryStart::Name {
+            start: word.start,
+            end: word.end,
+            next: word.next,
+        });
     };
     let deep = 64 <= depth;
     if deep {
-        return refuse(refusals::TOO_DEEP, inside - 1);
+        return Err(Cause::TooDeep.at(inside - 1));
     }
-    call_start(text, place, function_of(word), inside, class)
+    call_start(text, word.place, function_of(bytes), inside)
 }
 
 // A word that begins a primary: a name where it is quoted, whatever follows.
-fn word_start(
-    text: &[u8],
-    depth: usize,
-    place: usize,
-    start: usize,
-    end: usize,
-    quoted: bool,
-    next: usize,
-    class: &[u8; 256],
-) -> PrimaryStart
-    requires { IsClassTable class.now × ((start ≤ end) × ((end ≤ next) × (next ≤ length text.now))) }
-    ensures { Begins text.now start next (left text.now next) result (word_start text.now depth place (part text.now start end) quoted (tokens_from text.now next)) }
+fn word_start(text: &[u8], depth: usize, word: Word) -> Result<PrimaryStart, Refusal>
+    requires { (word.start ≤ word.end) × ((word.end ≤ word.next) × (word.next ≤ length text.now)) }
+    ensures { Begins text.now word.start word.next (left text.now word.next) result (word_start text.now depth word.place (part text.now word.start word.end) word.quoted (tokens_from text.now word.next)) }
 {
-    let named = quoted;
+    let named = word.quoted;
     if named {
-        return PrimaryStart::Name { start, end, next };
+        return Ok(PrimaryStart::Name {
+            start: word.start,
+            end: word.end,
+            next: word.next,
+        });
     }
-    unquoted_start(text, depth, place, start, end, next, class)
+    unquoted_start(text, depth, word)
 }
 
 // How the primary at a position begins, where `depth` brackets are open.
-pub fn primary_start_at(text: &[u8], at: usize, depth: usize, class: &[u8; 256]) -> PrimaryStart
-    requires { IsClassTable class.now }
+pub fn primary_start_at(text: &[u8], at: usize, depth: usize) -> Result<PrimaryStart, Refusal>
     ensures { Begins text.now at (at + 1) (left text.now at - 1) result (primary_start text.now depth (tokens_from text.now at)) }
 {
-    let t = token_at(text, at, class);
+    let t = token_at(text, at);
     match t {
-        Token::Word {
-            place,
-            start,
-            end,
-            quoted,
-            next,
-        } => word_start(text, depth, place, start, end, quoted, next, class),
+        Token::Word(word) => word_start(text, depth, word),
         Token::Open { place, next } => {
             let deep = 64 <= depth;
             if deep {
-                return refuse(refusals::TOO_DEEP, place);
+                return Err(Cause::TooDeep.at(place));
             }
-            PrimaryStart::Group { next }
+            Ok(PrimaryStart::Group { next })
         }
-        _ => refuse(refusals::NO_EXPRESSION, place_of(t)),
+        _ => Err(Cause::NoExpression.at(place_of(t))),
     }
 }

@@ -1,4 +1,5 @@
-// The C interface: the five calls of `prune`, under the same names and with the same clauses.
+// The C interface: the five calls of `prune`, under the same names and with the same clauses. A crate is a static library for C or a
+// library for other crates, not both; so each call is written twice.
 #![tactic(auto)]
 
 ghost use Rattle.std.specs.Prelude.{◌≡◌};

@@ -2,6 +2,7 @@
 use Rattle.std.specs.Prelude.{ℕ, List, length}
 use Rattle.slices.specs.Text.{bytes}
 use Rattle.refusals.specs.declared.Refusal.{Refusal}
+use Rattle.refusals.specs.Refusals.{number}
 use Rattle.rules.specs.Rule.{size}
 use Rattle.image.specs.Encode.{names}
 use Rattle.grammar.specs.Reading.{Read, rule, refused}
@@ -9,7 +10,7 @@ use Rattle.lines.specs.Lines.{numbers_line}
 
 -- a refusal's number and place
 abbrev pub refusal_line : Refusal → List ℕ
-refusal_line f = numbers_line (bytes "no ") f.number f.place
+refusal_line f = numbers_line (bytes "no ") (number f.cause) f.place
 
 -- the numbers of nodes and of name bytes, or the refusal
 abbrev pub read_line : Read → List ℕ

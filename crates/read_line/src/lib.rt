@@ -8,7 +8,7 @@ ghost use Rattle.read_line.specs.Reading.{refusal_line, read_line};
 
 use image::{name_byte_count, node_count};
 use lines::append_numbers;
-use read::{IMAGE_BYTES, Reading};
+use read::IMAGE_BYTES;
 use refusals::Refusal;
 
 // A refusal's number and place.
@@ -16,7 +16,8 @@ pub fn append_refusal(line: &mut [u8], at: usize, f: Refusal) -> usize
     requires { at + 45 ≤ length line.old }
     ensures { WrittenAt line.old line.new at result (refusal_line f) }
 {
-    append_numbers(line, at, b"no ", f.number as u64, f.place as u64)
+    let number = u64::from(f.cause.number());
+    append_numbers(line, at, b"no ", number, f.place as u64)
 }
 
 // What a text reads as: the numbers of nodes and of name bytes, or the refusal.
@@ -26,11 +27,11 @@ pub fn reading_line(line: &mut [u8], text: &[u8]) -> usize
 {
     let mut image = [0u8; IMAGE_BYTES];
     match read::read(text, &mut image) {
-        Reading::Read(_) => {
+        Ok(_) => {
             let nodes = node_count(&image) as u64;
             let bytes = name_byte_count(&image) as u64;
             append_numbers(line, 0, b"ok ", nodes, bytes)
         }
-        Reading::Refused(f) => append_refusal(line, 0, f),
+        Err(f) => append_refusal(line, 0, f),
     }
 }

@@ -4,6 +4,7 @@
 use console::{READ_BYTES, fail, read_text, write_out};
 use std::process::ExitCode;
 
+#[tactic(auto, using(console::proofs::Laws::WithinLaws::put_within, console::proofs::Laws::WithinLaws::put_counts))]
 fn main(rt: HostRuntime) -> ExitCode {
     let mut text = [0u8; READ_BYTES];
     let size = match read_text(&mut rt.stdin(), &mut text) {

@@ -1,90 +1,73 @@
-// A rule checked against the stores: 17, 18, 20, 21, 22.
+// A rule checked against the stores: whether they are a table with no name twice, then what the rule says of them.
 ghost use Rattle.std.specs.Prelude.{◌≡◌, ◌≤◌, length};
 ghost use Rattle.rules.specs.Rule.{Rule};
 ghost use Rattle.rules.specs.Rule.{size as size_of};
 ghost use Rattle.image.specs.Decode.{cell_at};
 ghost use Rattle.image.specs.Inner.EncodedAt.{EncodedAt};
-ghost use Rattle.image.specs.Inner.Subtree.{ValidSubtree};
-ghost use Rattle.store_table.specs.Inner.Index.{IndexedAll};
 ghost use Rattle.verdict.specs.Check.{check_rule};
 ghost use Rattle.verdict.specs.Inner.Grades.{WithStores};
 
+use decide::indexed_stores;
 use evaluate::evaluate;
-use store_index::twin_of;
-use store_table::{Twin, count_of, is_table};
+use image::Image;
+use lookup::IndexedTable;
+use lookup::index::Index;
+use refusals::Cause;
+use verdict::Verdict;
 use verdict::grades::grade_leaves;
-use verdict::{Unknown, Verdict, refuse};
 
-// Checks the rule of an image of n nodes against stores of which no two share a name: 20, 21, 22.
-fn check_names(
-    image: &[u8],
-    n: usize,
-    stores: &[u8],
-    starts: &[u16; 64],
-    slots: &[u8; 512],
-    grades: &mut [u8],
-) -> Verdict
-    requires { ValidSubtree image.now n 0 n × ((n ≤ length grades.old) × (WithStores stores.now × IndexedAll stores.now starts.now slots.now)) }
-    ensures { (ρ : Rule) → size_of ρ ≡ n → EncodedAt ρ (cell_at image.now n) 0 → result ≡ check_rule ρ stores.now }
+// Checks the rule of an image against stores of which no two share a name: an unknown name, then what it evicts on.
+fn check_names(image: Image, stores: IndexedTable, grades: &mut [u8]) -> Verdict
+    requires { (image.nodes ≤ length grades.old) × WithStores stores.table.bytes.now }
+    ensures { (ρ : Rule) → size_of ρ ≡ image.entry.nodes → EncodedAt ρ (cell_at image.entry.bytes.now image.entry.nodes) 0 → result ≡ check_rule ρ stores.entry.table.bytes.now }
 {
-    if let Unknown::At(i) = grade_leaves(image, n, stores, starts, slots, grades) {
-        return refuse(refusals::UNKNOWN_STORE, i);
+    if let Some(place) = grade_leaves(image, stores, grades) {
+        return Err(Cause::UnknownStore.at(place));
     }
-    if evaluate(image, n, 0, n, grades, 2) {
-        return refuse(refusals::UNCONFIRMED, 0);
+    let nodes = image.table();
+    if evaluate(nodes, 0, nodes.count, grades, 2) {
+        return Err(Cause::Unconfirmed.at(0));
     }
-    let archived = evaluate(image, n, 0, n, grades, 1);
+    let archived = evaluate(nodes, 0, nodes.count, grades, 1);
     if archived {
-        return refuse(refusals::ARCHIVE_ONLY, 0);
+        return Err(Cause::ArchiveOnly.at(0));
     }
-    Verdict::Pass
+    Ok(())
 }
 
-// Checks the rule of an image of n nodes, with room for a grade of each: 17, 18, then 20 to 22 where there are stores.
-fn check_in(image: &[u8], n: usize, stores: &[u8], grades: &mut [u8]) -> Verdict
-    requires { ValidSubtree image.now n 0 n × (n ≤ length grades.old) }
-    ensures { (ρ : Rule) → size_of ρ ≡ n → EncodedAt ρ (cell_at image.now n) 0 → result ≡ check_rule ρ stores.now }
+// Checks the rule of an image, with room for a grade of each node: the stores, then the rule where there are some.
+fn check_in(image: Image, stores: &[u8], grades: &mut [u8]) -> Verdict
+    requires { image.nodes ≤ length grades.old }
+    ensures { (ρ : Rule) → size_of ρ ≡ image.entry.nodes → EncodedAt ρ (cell_at image.entry.bytes.now image.entry.nodes) 0 → result ≡ check_rule ρ stores.now }
 {
-    if !is_table(stores) {
-        return refuse(refusals::BAD_STORE_TABLE, 0);
-    }
-    let mut starts = [0u16; 64];
-    let mut slots = [0u8; 512];
-    if let Twin::At(i) = twin_of(stores, &mut starts, &mut slots) {
-        return refuse(refusals::TWIN_NAME, i);
-    }
-    let none = count_of(stores) < 1;
+    let mut index = Index::new();
+    let table = indexed_stores(stores, &mut index)?;
+    let none = table.count() < 1;
     if none {
-        return Verdict::Pass;
+        return Ok(());
     }
-    check_names(image, n, stores, &starts, &slots, grades)
+    let stores = IndexedTable {
+        table,
+        index: &index,
+    };
+    check_names(image, stores, grades)
 }
 
-// The same, for at most 64 nodes.
-fn check_64(image: &[u8], n: usize, stores: &[u8]) -> Verdict
-    requires { ValidSubtree image.now n 0 n × (n ≤ 64) }
-    ensures { (ρ : Rule) → size_of ρ ≡ n → EncodedAt ρ (cell_at image.now n) 0 → result ≡ check_rule ρ stores.now }
+// The same, for at most N nodes.
+fn check_within<const N: usize>(image: Image, stores: &[u8]) -> Verdict
+    requires { (image.nodes ≤ N) × (N ≤ 2048) }
+    ensures { (ρ : Rule) → size_of ρ ≡ image.entry.nodes → EncodedAt ρ (cell_at image.entry.bytes.now image.entry.nodes) 0 → result ≡ check_rule ρ stores.now }
 {
-    let mut grades = [0u8; 64];
-    check_in(image, n, stores, &mut grades)
+    let mut grades = [0u8; N];
+    check_in(image, stores, &mut grades)
 }
 
-// The same, for at most 2,048 nodes.
-fn check_2048(image: &[u8], n: usize, stores: &[u8]) -> Verdict
-    requires { ValidSubtree image.now n 0 n × (n ≤ 2048) }
-    ensures { (ρ : Rule) → size_of ρ ≡ n → EncodedAt ρ (cell_at image.now n) 0 → result ≡ check_rule ρ stores.now }
+// Checks the rule of an image: with an array of 64 grades where they suffice, since one of 2,048 takes time to clear.
+pub fn check_rule(image: Image, stores: &[u8]) -> Verdict
+    ensures { (ρ : Rule) → size_of ρ ≡ image.entry.nodes → EncodedAt ρ (cell_at image.entry.bytes.now image.entry.nodes) 0 → result ≡ check_rule ρ stores.now }
 {
-    let mut grades = [0u8; 2048];
-    check_in(image, n, stores, &mut grades)
-}
-
-// Checks the rule of an image of n nodes. The array of grades is chosen by their number.
-pub fn check_rule(image: &[u8], n: usize, stores: &[u8]) -> Verdict
-    requires { ValidSubtree image.now n 0 n × (n ≤ 2048) }
-    ensures { (ρ : Rule) → size_of ρ ≡ n → EncodedAt ρ (cell_at image.now n) 0 → result ≡ check_rule ρ stores.now }
-{
-    if n <= 64 {
-        return check_64(image, n, stores);
+    if image.nodes <= 64 {
+        return check_within::<64>(image, stores);
     }
-    check_2048(image, n, stores)
+    check_within::<2048>(image, stores)
 }

@@ -8,17 +8,16 @@ ghost use Rattle.verdict.specs.Check.{check_of};
 ghost use Rattle.verdict.specs.Guarantee.{Checked};
 
 use crate::check::check_rule;
-use image::node_count;
-use image_test::is_image;
-use verdict::{Verdict, refuse};
+use image_test::checked;
+use refusals::Cause;
+use verdict::Verdict;
 
 // Checks the rule of an image: whether it may be set for these stores.
 pub fn validate_safety(image: &[u8], stores: &[u8]) -> Verdict
     ensures { (result ≡ check_of image.now stores.now) × Checked image.now stores.now result }
 {
-    if !is_image(image) {
-        return refuse(refusals::BAD_IMAGE, 0);
-    }
-    let n = node_count(image);
-    check_rule(image, n, stores)
+    let Some(image) = checked(image) else {
+        return Err(Cause::BadImage.at(0));
+    };
+    check_rule(image, stores)
 }

@@ -1,7 +1,7 @@
 // Slices of bytes: what is looked for in one, and pieces written into one.
 #![tactic(auto)]
 
-ghost use Rattle.std.specs.Prelude.{◌≡◌, ◌≤◌, ◌+◌, drop, length};
+ghost use Rattle.std.specs.Prelude.{◌≡◌, ◌<◌, ◌≤◌, ◌+◌, ℕ, Bool, drop, length};
 ghost use Rattle.ascii.specs.Letters.{within};
 ghost use Rattle.slices.specs.Inner.Search.{largest};
 ghost use Rattle.slices.specs.Text.{run_end, other, all_ascii, end_of_last, WrittenAt};
@@ -11,12 +11,10 @@ pub fn largest_from(s: &[u8], at: usize) -> u8
     ensures { result ≡ largest (drop at s.now) }
 {
     let mut most: u8 = 0;
-    let mut i = at;
-    while i < s.len() {
+    for i in at..s.len() {
         if most < s[i] {
             most = s[i];
         }
-        i += 1;
     }
     most
 }
@@ -26,29 +24,26 @@ pub fn end_of_last(s: &[u8], at: usize, lo: u8, hi: u8) -> usize
     requires { at ≤ length s.now }
     ensures { result ≡ end_of_last (within lo hi) s.now at }
 {
-    let mut i = at;
-    while 0 < i {
-        let b = s[i - 1];
+    for i in (0..at).rev() {
+        let b = s[i];
         if lo <= b {
             if b <= hi {
-                return i;
+                return i + 1;
             }
         }
-        i -= 1;
     }
     0
 }
 
-// Writes a piece so that it ends at a position, and answers where it begins.
+// Writes a piece so that it ends at a position, and answers where it begins. A loop, since most pieces have few bytes: with
+// copy_from_slice printing takes a third longer.
 pub fn prepend(text: &mut [u8], end: usize, piece: &[u8]) -> usize
     requires { (length piece.now ≤ end) × (end ≤ length text.old) }
     ensures { WrittenAt text.old text.new result end piece.now }
 {
     let start = end - piece.len();
-    let mut i = 0;
-    while i < piece.len() {
-        text[start + i] = piece[i];
-        i += 1;
+    for (i, byte) in piece.iter().enumerate() {
+        text[start + i] = *byte;
     }
     start
 }
@@ -63,19 +58,27 @@ pub fn append(text: &mut [u8], at: usize, piece: &[u8]) -> usize
     end
 }
 
+// Where the run of bytes that pass a test ends, which begins at a position.
+pub fn run_end<F: Fn(u8) -> bool>(text: &[u8], at: usize, passes: F) -> usize
+    requires { F.IsAlwaysCallable passes }
+    ensures { (p : ℕ → Bool) → ((b : ℕ) (r : Bool) → b < 256 → F.post passes b r → r ≡ p b) → result ≡ run_end p text.now at }
+{
+    if text.len() <= at {
+        return at;
+    }
+    for i in at..text.len() {
+        if !passes(text[i]) {
+            return i;
+        }
+    }
+    text.len()
+}
+
 // Where the next mark of this sort is, from a position on, or the text's length.
-#[tactic(auto, using(crate::proofs::Laws::MarkLaws::mark_out, crate::proofs::Laws::MarkLaws::mark_stop, crate::proofs::Laws::MarkLaws::mark_on))]
 pub fn mark_at(text: &[u8], at: usize, mark: u8) -> usize
     ensures { result ≡ run_end (other mark) text.now at }
 {
-    let mut i = at;
-    while i < text.len() {
-        if text[i] == mark {
-            return i;
-        }
-        i += 1;
-    }
-    i
+    run_end(text, at, |b| b != mark)
 }
 
 // Whether all bytes from a position on are below 128.

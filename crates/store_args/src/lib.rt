@@ -1,9 +1,10 @@
 // Stores given as arguments: a name, a colon and a mode.
 #![tactic(auto)]
 
-ghost use Rattle.std.specs.Prelude.{◌≡◌, ◌≤◌, length, take, drop};
+ghost use Rattle.std.specs.Prelude.{◌≡◌, [], length, MatchOption};
+ghost use Rattle.std.specs.Iterator.{YieldsFirstRef, item_count};
 ghost use Rattle.store_args.specs.Arguments.{named, mode_tested, given_by, arguments_in};
-ghost use Rattle.store_args.specs.Inner.Filling.{Is, next_arg};
+ghost use Rattle.store_args.specs.Inner.Filling.{given, FirstOf};
 
 use ascii::eq;
 use slices::{ascii_from, end_of_last, mark_at};
@@ -13,7 +14,7 @@ use store_table::{READ_ONLY, READ_WRITE, WRITE_ONLY};
 pub const TABLE_BYTES: usize = 16_452;
 
 // What is wrong with an argument.
-#[derive(Clone, Copy)]
+#[derive(Clone, Copy, PartialEq, Eq)]
 pub enum Fault {
     NoColon,
     NoMode,
@@ -21,102 +22,102 @@ pub enum Fault {
     ForeignName,
 }
 
-// A store, by its mode and where its name ends in the argument, or what is wrong.
-#[derive(Clone, Copy)]
-pub enum Given {
-    Store { mode: u8, end: usize },
-    Wrong(Fault),
+// The first argument that is wrong, counted from 1, and what is wrong with it.
+#[derive(Clone, Copy, PartialEq, Eq)]
+pub struct WrongArgument {
+    pub index: usize,
+    pub fault: Fault,
 }
 
-// Where the names end with one store's name more, or what is wrong with it.
+// A store that an argument gives.
 #[derive(Clone, Copy)]
-pub enum One {
-    Used(usize),
-    Wrong(Fault),
+pub struct Store<'a> {
+    pub mode: u8,
+    pub name: &'a [u8],
 }
 
-// How many stores there are and how many bytes their names have; or the first argument that is wrong, counted from 1.
-#[derive(Clone, Copy)]
-pub enum Filled {
-    Stores { count: usize, used: usize },
-    Wrong { index: usize, fault: Fault },
-}
-
-// The table's length; or the first argument that is wrong, counted from 1.
-#[derive(Clone, Copy)]
-pub enum Made {
-    Table(usize),
-    Wrong { index: usize, fault: Fault },
-}
-
-// The store of a mode whose name is the front of an argument.
-#[tactic(auto, using(crate::proofs::Laws::GivenLaws::is_wrong, crate::proofs::Laws::GivenLaws::named_long, crate::proofs::Laws::GivenLaws::named_foreign, crate::proofs::Laws::GivenLaws::named_store))]
-fn name_tested(arg: &[u8], end: usize, mode: u8) -> Given
-    requires { end ≤ length arg.now }
-    ensures { Is arg.now result (named mode (take end arg.now)) }
+// The store of a mode and a name.
+#[tactic(auto, unfolding(crate::specs::Arguments::named))]
+fn name_tested(name: &[u8], mode: u8) -> Result<Store<'_>, Fault>
+    ensures { given result ≡ named mode name.now }
 {
-    if 255 < end {
-        return Given::Wrong(Fault::LongName);
+    if 255 < name.len() {
+        return Err(Fault::LongName);
     }
-    if !ascii_from(&arg[..end], 0) {
-        return Given::Wrong(Fault::ForeignName);
+    if !ascii_from(name, 0) {
+        return Err(Fault::ForeignName);
     }
-    Given::Store { mode, end }
+    Ok(Store { mode, name })
 }
 
-// The store whose name is the front of an argument and whose mode is the part from a position on.
-fn mode_tested(arg: &[u8], end: usize, from: usize) -> Given
-    requires { (end ≤ from) × (from ≤ length arg.now) }
-    ensures { Is arg.now result (mode_tested (drop from arg.now) (take end arg.now)) }
+// The store of a name, and of the mode that a word names.
+#[tactic(auto, unfolding(crate::specs::Arguments::mode_tested))]
+fn mode_tested<'a>(word: &[u8], name: &'a [u8]) -> Result<Store<'a>, Fault>
+    ensures { given result ≡ mode_tested word.now name.now }
 {
-    let mode = &arg[from..];
-    if eq(mode, b"read-write") {
-        return name_tested(arg, end, READ_WRITE);
+    if eq(word, b"read-write") {
+        return name_tested(name, READ_WRITE);
     }
-    if eq(mode, b"read-only") {
-        return name_tested(arg, end, READ_ONLY);
+    if eq(word, b"read-only") {
+        return name_tested(name, READ_ONLY);
     }
-    if eq(mode, b"write-only") {
-        return name_tested(arg, end, WRITE_ONLY);
+    if eq(word, b"write-only") {
+        return name_tested(name, WRITE_ONLY);
     }
-    Given::Wrong(Fault::NoMode)
+    Err(Fault::NoMode)
 }
 
 // The store that an argument gives.
-pub fn given_by(arg: &[u8]) -> Given
-    ensures { Is arg.now result (given_by arg.now) }
+#[tactic(auto, using(slices::proofs::Laws::SearchLaws::last_le), unfolding(crate::specs::Arguments::given_by, crate::specs::Arguments::colon_tested))]
+pub fn given_by(arg: &[u8]) -> Result<Store<'_>, Fault>
+    ensures { given result ≡ given_by arg.now }
 {
     if 266 < arg.len() {
-        return Given::Wrong(Fault::LongName);
+        return Err(Fault::LongName);
     }
     let from = end_of_last(arg, arg.len(), b':', b':');
     if from == 0 {
-        return Given::Wrong(Fault::NoColon);
+        return Err(Fault::NoColon);
     }
-    mode_tested(arg, from - 1, from)
+    mode_tested(&arg[from..], &arg[..from - 1])
 }
 
-// Where the next argument begins, or the end.
-pub fn next_arg(args: &[u8], at: usize) -> usize
-    requires { at ≤ length args.now }
-    ensures { result ≡ next_arg args.now at }
+// The first argument and the arguments after it, without the 0 between them; none where there are no arguments.
+fn split_first(args: &[u8]) -> Option<(&[u8], &[u8])>
+    ensures { MatchOption result (arguments_in args.now ≡ []) (λ p. FirstOf args.now p.0.now p.1.now) }
 {
-    let stop = mark_at(args, at, 0);
-    if stop < args.len() {
-        return stop + 1;
+    if args.is_empty() {
+        return None;
     }
-    stop
+    let stop = mark_at(args, 0, 0);
+    if stop < args.len() {
+        return Some((&args[..stop], &args[stop + 1..]));
+    }
+    Some((&args[..stop], &args[stop..]))
+}
+
+// The arguments, one after the other.
+#[derive(Drop)]
+pub struct Arguments<'a>(pub &'a [u8]);
+
+impl<'a> Iterator for Arguments<'a> {
+    type Item = &'a [u8];
+
+    ghost next_gives = { YieldsFirstRef (λ s. arguments_in s.0.now) };
+
+    ghost remaining = { item_count (λ s. arguments_in s.0.now) };
+
+    fn next(&mut self) -> Option<&'a [u8]> {
+        let (first, rest) = split_first(self.0)?;
+        self.0 = rest;
+        Some(first)
+    }
 }
 
 // How many arguments there are.
+#[tactic(auto, using(crate::proofs::Laws::SplitLaws::arguments_few))]
 pub fn count_args(args: &[u8]) -> usize
     ensures { result ≡ length (arguments_in args.now) }
 {
-    let mut count = 0;
-    let mut at = 0;
-    while at < args.len() {
-        at = next_arg(args, at);
-        count += 1;
-    }
-    count
+    Arguments(args).count()
 }

@@ -1,12 +1,10 @@
 -- Store tables and confirmed lists, as document 01's 'Stores and confirmed lists' lays them down. Assumes nothing.
-use Rattle.std.specs.Prelude.{ℕ, suc, ◌+◌, ◌*◌, ◌<◌, ◌≡◌, Bool, true, cond, ◌&&◌, List, [], ◌∷◌, map, eqb, leb, length, take, drop}
+use Rattle.std.specs.Prelude.{ℕ, suc, ◌+◌, ◌*◌, ◌<◌, ◌≡◌, Bool, true, cond, ◌&&◌, List, [], ◌∷◌, map, eqb, leb, length, take, drop, None, Option, Some}
 use Rattle.std.proofs.Math.Option.{some}
 use Rattle.std.proofs.Math.ListN.{get_elem?}
 use Rattle.little_endian.specs.Bytes.{le_at}
 use Rattle.slices.specs.Text.{all_ascii}
 use Rattle.store_table.specs.Names.{has}
-use Rattle.store_table.specs.declared.Twin.{Twin}
-use Rattle.store_table.specs.declared.Twin.TheVariants.{No, At}
 
 -- "Modes: 0 read-write, 1 read-only, 2 write-only"
 abbrev pub read_write : ℕ
@@ -104,12 +102,12 @@ ready_count [] names = 0
 ready_count (e ∷ es) names = let n = ready_count es names in cond (is_readable e.mode && has e.name names) (suc n) n
 
 -- 18: the lowest index whose name an earlier store has; `seen` are the names before index i
-unfoldable pub twin_from : List (List ℕ) → ℕ → List Entry → Twin
+unfoldable pub twin_from : List (List ℕ) → ℕ → List Entry → Option ℕ
 unfolding has
-twin_from seen i [] = No
-twin_from seen i (e ∷ es) = let r = twin_from (e.name ∷ seen) (suc i) es in cond (has e.name seen) (At i) r
+twin_from seen i [] = None
+twin_from seen i (e ∷ es) = let r = twin_from (e.name ∷ seen) (suc i) es in cond (has e.name seen) (Some i) r
 
-unfoldable pub twin_of : List Entry → Twin
+unfoldable pub twin_of : List Entry → Option ℕ
 unfolding twin_from
 twin_of es = twin_from [] 0 es
 

@@ -1,13 +1,16 @@
-// Store tables and confirmed lists: whether bytes are one, and whether two names are the same.
+// Store tables and confirmed lists: whether bytes are one, what each entry is, and whether two names are the same.
 #![tactic(auto)]
 
-ghost use Rattle.std.specs.Prelude.{◌≡◌, ◌<◌, ◌+◌, ◌≤◌, length, drop, take};
+pub mod entries;
+
+ghost use Rattle.std.specs.Prelude.{◌≡◌, ◌<◌, ◌+◌, ◌≤◌, drop, length, true, false, MatchOption};
+ghost use Rattle.slices.specs.Text.{AllBytes};
 ghost use Rattle.store_table.specs.Names.{same_name};
 ghost use Rattle.store_table.specs.Stores.{Entry, is_readable, sum, all_at_most, well_made, is_table, is_list, count_in, entries_in, names_start};
 ghost use Rattle.store_table.specs.Inner.Bounds.{TableInBounds};
-ghost use Rattle.store_table.specs.Inner.Index.{EntryAt, length_at};
+ghost use Rattle.store_table.specs.Inner.Index.{EntryAt, NameAt, length_at, name_start_at};
 
-use little_endian::{read_u16, read_u64};
+use little_endian::read;
 use slices::ascii_from;
 
 // Where the count, the total and the modes of a table or a list begin.
@@ -17,43 +20,29 @@ pub const TOTAL_START: usize = 2;
 
 pub const MODES_START: usize = 4;
 
-// The modes of a store.
+// The modes of a store. They stay numbers, the bytes of a lent table: each is compared once, where it is read, and an enum would be
+// made for that alone.
 pub const READ_WRITE: u8 = 0;
 
 pub const READ_ONLY: u8 = 1;
 
 pub const WRITE_ONLY: u8 = 2;
 
-// The index of a store whose name an earlier store has, or none.
-#[derive(Clone, Copy)]
-pub enum Twin {
-    No,
-    At(usize),
-}
-
-// A byte as a number.
-pub fn to_usize(x: u8) -> usize
-    ensures { (result ≡ x) × (result < 256) }
-{
-    x as usize
-}
-
 // Whether two names of the same length are the same from a position on.
 fn same_from(a: &[u8], b: &[u8], at: usize) -> bool
     requires { length a.now ≡ length b.now }
     ensures { result ≡ same_name (drop at a.now) (drop at b.now) }
 {
-    let mut i = at;
-    while i < a.len() {
+    for i in at..a.len() {
         if a[i] != b[i] {
             return false;
         }
-        i += 1;
     }
     true
 }
 
-// Whether two names are the same: eight bytes at a time, then byte by byte.
+// Whether two names are the same: eight bytes at a time, then byte by byte. With `a == b` deciding for 64 stores takes up to half as
+// long again.
 pub fn same_name(a: &[u8], b: &[u8]) -> bool
     ensures { result ≡ same_name a.now b.now }
 {
@@ -62,7 +51,7 @@ pub fn same_name(a: &[u8], b: &[u8]) -> bool
     }
     let mut i = 0;
     while i + 8 <= a.len() {
-        if read_u64(a, i) != read_u64(b, i) {
+        if read::<8>(a, i) != read::<8>(b, i) {
             return false;
         }
         i += 8;
@@ -77,57 +66,19 @@ pub fn is_readable(mode: u8) -> bool
     mode <= READ_ONLY
 }
 
-// Where the names of a table or a list of this many entries begin.
-pub fn names_start(count: usize) -> usize
-    requires { count ≤ 64 }
-    ensures { result ≡ names_start count }
+// The sum of at most 64 bytes.
+fn sum_of(bytes: &[u8]) -> usize
+    requires { length bytes.now ≤ 64 }
+    ensures { result ≡ sum bytes.now }
 {
-    MODES_START + 2 * count
+    bytes.iter().map(|x| usize::from(*x)).sum()
 }
 
-// The mode of entry k.
-pub fn mode_at(s: &[u8], k: usize) -> u8
-    requires { TableInBounds s.now × (k < count_in s.now) }
-    ensures { (x : Entry) → EntryAt (entries_in s.now) k x → result ≡ x.mode }
+// Whether bytes are at most `most`.
+fn all_at_most(bytes: &[u8], most: u8) -> bool
+    ensures { result ≡ all_at_most most bytes.now }
 {
-    s[MODES_START + k]
-}
-
-// The length of the name of entry k, of `count` entries.
-pub fn length_at(s: &[u8], count: usize, k: usize) -> usize
-    requires { TableInBounds s.now × ((count ≡ count_in s.now) × (k < count)) }
-    ensures { (result ≡ length_at s.now k) × (result < 256) }
-{
-    to_usize(s[MODES_START + count + k])
-}
-
-// The sum of n bytes from a position on.
-fn sum_from(s: &[u8], at: usize, n: usize) -> usize
-    requires { (at + n ≤ length s.now) × (n ≤ 64) }
-    ensures { result ≡ sum (take n (drop at s.now)) }
-{
-    let mut k = 0;
-    let mut total: usize = 0;
-    while k < n {
-        total += to_usize(s[at + k]);
-        k += 1;
-    }
-    total
-}
-
-// Whether n bytes from a position on are at most `most`.
-fn all_at_most(s: &[u8], at: usize, n: usize, most: u8) -> bool
-    requires { at + n ≤ length s.now }
-    ensures { result ≡ all_at_most most (take n (drop at s.now)) }
-{
-    let mut k = 0;
-    while k < n {
-        if most < s[at + k] {
-            return false;
-        }
-        k += 1;
-    }
-    true
+    bytes.iter().all(|x| *x <= most)
 }
 
 // Whether the bytes are a well-made table or list, with modes of at most `most`.
@@ -138,48 +89,92 @@ fn well_made(s: &[u8], most: u8) -> bool
     if s.len() < MODES_START {
         return false;
     }
-    let count = read_u16(s, COUNT_START) as usize;
-    let total = read_u16(s, TOTAL_START) as usize;
+    let count = read::<2>(s, COUNT_START) as usize;
+    let total = read::<2>(s, TOTAL_START) as usize;
     if 64 < count {
         return false;
     }
-    if s.len() != names_start(count) + total {
+    let lengths = MODES_START + count;
+    let names = lengths + count;
+    if s.len() != names + total {
         return false;
     }
-    if sum_from(s, MODES_START + count, count) != total {
+    if sum_of(&s[lengths..names]) != total {
         return false;
     }
-    if !all_at_most(s, MODES_START, count, most) {
+    if !all_at_most(&s[MODES_START..lengths], most) {
         return false;
     }
-    ascii_from(s, names_start(count))
+    ascii_from(s, names)
 }
 
-// Whether the bytes are a well-made store table.
-pub fn is_table(s: &[u8]) -> bool
-    ensures { result ≡ is_table s.now }
-{
-    well_made(s, WRITE_ONLY)
-}
-
-// Whether the bytes are a well-made confirmed list.
-pub fn is_list(s: &[u8]) -> bool
-    ensures { result ≡ is_list s.now }
-{
-    well_made(s, READ_WRITE)
-}
-
-// How many entries there are.
-pub fn count_of(s: &[u8]) -> usize
-    requires { TableInBounds s.now }
-    ensures { (result ≡ count_in s.now) × (result ≤ 64) }
-{
-    read_u16(s, COUNT_START) as usize
-}
-
-// The index of an entry, or none.
+// The bytes of a well-made table or list.
 #[derive(Clone, Copy)]
-pub enum Found {
-    No,
-    At(usize),
+pub struct Table<'a> {
+    pub bytes: &'a [u8],
+    pub ghost in_bounds: { TableInBounds bytes.now },
+    pub ghost are_bytes: { AllBytes bytes.now },
+}
+
+impl<'a> Table<'a> {
+    // The table that the bytes are, where they are a well-made store table.
+    pub fn of_stores(bytes: &'a [u8]) -> Option<Table<'a>>
+        ensures { MatchOption result (is_table bytes.now ≡ false) (λ t. (is_table bytes.now ≡ true) × (t.bytes.now ≡ bytes.now)) }
+    {
+        if well_made(bytes, WRITE_ONLY) {
+            Some(Table { bytes })
+        } else {
+            None
+        }
+    }
+
+    // The list that the bytes are, where they are a well-made confirmed list.
+    pub fn of_list(bytes: &'a [u8]) -> Option<Table<'a>>
+        ensures { MatchOption result (is_list bytes.now ≡ false) (λ t. (is_list bytes.now ≡ true) × (t.bytes.now ≡ bytes.now)) }
+    {
+        if well_made(bytes, READ_WRITE) {
+            Some(Table { bytes })
+        } else {
+            None
+        }
+    }
+
+    // How many entries there are.
+    pub fn count(self) -> usize
+        ensures { (result ≡ count_in self.entry.bytes.now) × (result ≤ 64) }
+    {
+        read::<2>(self.bytes, COUNT_START) as usize
+    }
+
+    // The mode of entry k.
+    pub fn mode(self, k: usize) -> u8
+        requires { k < count_in self.bytes.now }
+        ensures { (x : Entry) → EntryAt (entries_in self.entry.bytes.now) k x → result ≡ x.mode }
+    {
+        self.bytes[MODES_START + k]
+    }
+
+    // The length of the name of entry k.
+    pub fn name_length(self, k: usize) -> usize
+        requires { k < count_in self.bytes.now }
+        ensures { (result ≡ length_at self.entry.bytes.now k) × (result < 256) }
+    {
+        usize::from(self.bytes[MODES_START + self.count() + k])
+    }
+
+    // Where the names begin.
+    pub fn names_start(self) -> usize
+        ensures { (result ≡ name_start_at self.entry.bytes.now 0) × (result ≤ 132) }
+    {
+        MODES_START + 2 * self.count()
+    }
+
+    // The name of entry k, which begins at `start`.
+    pub fn name(self, k: usize, start: usize) -> &'a [u8]
+        requires { (k < count_in self.bytes.now) × (start ≡ name_start_at self.bytes.now k) }
+        ensures { NameAt self.entry.bytes.now k start result.now }
+    {
+        let end = start + self.name_length(k);
+        &self.bytes[start..end]
+    }
 }

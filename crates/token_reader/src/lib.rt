@@ -1,11 +1,10 @@
-// The word reader: a text and a position in it, kept together. Each function is thin: the work is done by those of
-// `tokens`, whose parameters are plain.
+// The word reader: a text and a position in it, kept together. A rule of the project names this form: each function is
+// thin, and the work is done by those of `tokens`, whose parameters are plain.
 #![tactic(auto)]
 
 pub mod scan;
 
 ghost use Rattle.std.specs.Prelude.{◌≡◌};
-ghost use Rattle.classes.specs.Inner.ClassTable.{IsClassTable};
 ghost use Rattle.tokens.specs.Token.{token_at};
 
 use tokens::Token;
@@ -28,25 +27,20 @@ impl<'a> WordReader<'a> {
     pub fn moved(self, to: usize) -> WordReader<'a>
         ensures { (result.text ≡ self.entry.text) × (result.pos ≡ to) }
     {
-        WordReader {
-            text: self.text,
-            pos: to,
-        }
+        WordReader { pos: to, ..self }
     }
 
     // The first token from the position on.
-    pub fn peek(self, class: &[u8; 256]) -> Token
-        requires { IsClassTable class.now }
+    pub fn peek(self) -> Token
         ensures { result ≡ token_at self.entry.text.now self.entry.pos }
     {
-        tokens::token_at(self.text, self.pos, class)
+        tokens::token_at(self.text, self.pos)
     }
 }
 
 // The first token from a position on, by a reader of the text that is moved there.
-pub fn token_from(text: &[u8], at: usize, class: &[u8; 256]) -> Token
-    requires { IsClassTable class.now }
+pub fn token_from(text: &[u8], at: usize) -> Token
     ensures { result ≡ token_at text.now at }
 {
-    WordReader::new(text).moved(at).peek(class)
+    WordReader::new(text).moved(at).peek()
 }

@@ -1,23 +1,21 @@
 -- Demand 3: what a verdict says, over the bytes of text, table and list. Each field quotes the demand, or document 01's 'What the
 -- reviewer signs for'. Assumes nothing.
-use Rattle.std.specs.Prelude.{ℕ, ◌≤◌, ◌≡◌, true, ◌↔◌, ◌⊎◌, length, take}
+use Rattle.std.specs.Prelude.{ℕ, ◌≤◌, ◌≡◌, true, ◌↔◌, ◌⊎◌, length, take, Result, Err, Ok}
 use mathlib.Core.List.{List, [], Memᴰ}
 use Rattle.std.proofs.Math.Option.{none, some}
 use Rattle.refusals.specs.declared.Refusal.{Refusal}
-use Rattle.refusals.specs.Refusals.{refusal, bad_image, unknown_store, unconfirmed, archive_only}
+use Rattle.refusals.specs.Refusals.{refusal, number}
+use Rattle.refusals.specs.declared.Cause.TheVariants.{BadImage, UnknownStore, Unconfirmed, ArchiveOnly}
 use Rattle.rules.specs.Rule.{Rule, names_in}
 use Rattle.slices.specs.Text.{AllBytes}
 use Rattle.image.specs.Decode.{decode}
 use Rattle.grammar.specs.Reading.{rule, refused, read_of}
 use Rattle.read.specs.Outcome.{read_into}
-use Rattle.read.specs.declared.Reading.{Reading}
-use Rattle.read.specs.declared.Reading.TheVariants.{Read as Written, Refused as Unread}
 use Rattle.store_table.specs.Stores.{Entry, is_table, is_list, count_in, entries_in, is_readable, Distinct, write_only}
 use Rattle.evaluate.specs.Evict.{env_of, evict}
 use Rattle.decide.specs.Decide.{decision_of, list_names, decide_of}
 use Rattle.verdict.specs.Check.{oldest, check_of}
-use Rattle.verdict.specs.declared.Verdict.{Verdict}
-use Rattle.verdict.specs.declared.Verdict.TheVariants.{Pass, Refused}
+use Rattle.verdict.specs.Verdict.{Verdict}
 
 -- ---- tables, lists and names
 
@@ -74,17 +72,17 @@ Safe r s = (age : ℕ) → age ≤ oldest → (l : List ℕ) → Confirmed l →
 -- of a verdict v on what may hold a rule: `Holds r` says that it holds r
 pub record Guarantee (Holds : Rule → Type 0) (s : List ℕ) (v : Verdict) : Type 0 where
   -- 1: "pass the text exactly when it reads as a rule which names only stores of the table and which, whatever the age .."
-  pub passes : (v ≡ Pass) ↔ ((r : Rule) × Holds r × Known r s × Safe r s)
+  pub passes : (v ≡ Ok tt) ↔ ((r : Rule) × Holds r × Known r s × Safe r s)
   -- 2: "is passed, or refused with document 01's 21 or 22"
-  pub answers : (r : Rule) → Holds r → Known r s → (v ≡ Pass) ⊎ (v ≡ Refused (refusal unconfirmed 0)) ⊎ (v ≡ Refused (refusal archive_only 0))
+  pub answers : (r : Rule) → Holds r → Known r s → (v ≡ Ok tt) ⊎ (v ≡ Err (refusal Unconfirmed 0)) ⊎ (v ≡ Err (refusal ArchiveOnly 0))
   -- 3: "21 .. exactly when its rule says evict at the largest age with nothing confirmed"
-  pub unconfirmed_when : (r : Rule) → Holds r → Known r s → (l : List ℕ) → Nothing l → (v ≡ Refused (refusal unconfirmed 0)) ↔ Evicts r s oldest l
+  pub unconfirmed_when : (r : Rule) → Holds r → Known r s → (l : List ℕ) → Nothing l → (v ≡ Err (refusal Unconfirmed 0)) ↔ Evicts r s oldest l
   -- 4: "22 .. exactly when its rule doesn't say evict there, but does at the largest age with the write-only stores, and no
   -- others, confirmed"
   pub archive_only_when : (r : Rule) → Holds r → Known r s → (l k : List ℕ) → Nothing l → JustWriteOnly s k →
-      (v ≡ Refused (refusal archive_only 0)) ↔ ((Evicts r s oldest l → ⊥) × Evicts r s oldest k)
+      (v ≡ Err (refusal ArchiveOnly 0)) ↔ ((Evicts r s oldest l → ⊥) × Evicts r s oldest k)
   -- 5: "one whose rule has a name that is no store's gets 20"
-  pub unknown_name : (r : Rule) → Holds r → (Known r s → ⊥) → (i : ℕ) × (v ≡ Refused (refusal unknown_store i))
+  pub unknown_name : (r : Rule) → Holds r → (Known r s → ⊥) → (i : ℕ) × (v ≡ Err (refusal UnknownStore i))
   -- there are lists such as 3 and 4 speak of
   pub nothing_list : (l : List ℕ) × Nothing l
   pub write_only_list : (l : List ℕ) × JustWriteOnly s l
@@ -92,23 +90,23 @@ pub record Guarantee (Holds : Rule → Type 0) (s : List ℕ) (v : Verdict) : Ty
 -- of check's verdict on an image
 pub record Checked (image s : List ℕ) (v : Verdict) : Type 0 where
   pub guarantee : Table s → Guarantee (λ r. decode image ≡ some r) s v
-  pub broken : decode image ≡ none → v ≡ Refused (refusal bad_image 0)
+  pub broken : decode image ≡ none → v ≡ Err (refusal BadImage 0)
 
 -- ---- "reading into a buffer of at least 26,628 bytes and then check on the bytes written"
 
-abbrev pub bytes_written : Reading → List ℕ → List ℕ
-bytes_written (Written size) buffer = take size buffer
-bytes_written (Unread f) buffer = []
+abbrev pub bytes_written : Result ℕ Refusal → List ℕ → List ℕ
+bytes_written (Ok size) buffer = take size buffer
+bytes_written (Err f) buffer = []
 
-abbrev pub then_check : Reading → List ℕ → List ℕ → Verdict
-then_check (Written size) buffer s = check_of (take size buffer) s
-then_check (Unread f) buffer s = Refused f
+abbrev pub then_check : Result ℕ Refusal → List ℕ → List ℕ → Verdict
+then_check (Ok size) buffer s = check_of (take size buffer) s
+then_check (Err f) buffer s = Err f
 
 -- of judge's verdict on a text
 pub record Judged (text s : List ℕ) (v : Verdict) : Type 0 where
   pub guarantee : Table s → Guarantee (λ r. read_of text ≡ rule r) s v
   -- 5: "A text that doesn't read as a rule gets its number among 2 to 15"
-  pub unread : (f : Refusal) → read_of text ≡ refused f → (v ≡ Refused f) × (2 ≤ f.number) × (f.number ≤ 15)
+  pub unread : (f : Refusal) → read_of text ≡ refused f → (v ≡ Err f) × (2 ≤ number f.cause) × (number f.cause ≤ 15)
   -- 6: "decide, given the image read from the text, answers the same"
   pub decides : (r : Rule) → read_of text ≡ rule r → is_table s ≡ true → Distinct (entries_in s) → (buffer : List ℕ) → 26_628 ≤ length buffer →
       (age : ℕ) (l : List ℕ) → is_list l ≡ true →

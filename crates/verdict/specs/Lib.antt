@@ -1,3 +1,4 @@
 pub mod Check
 pub mod Guarantee
 pub mod Inner
+pub mod Verdict

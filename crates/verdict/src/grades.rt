@@ -1,39 +1,32 @@
 // The grade of each leaf: whether it says evict at the largest age with nothing confirmed, or with the write-only stores confirmed.
-ghost use Rattle.std.specs.Prelude.{◌≡◌, List, ℕ, ◌≤◌, length};
+// Grades are numbers, since `evaluate` compares the numbers of any caller with the least that says evict.
+ghost use Rattle.std.specs.Prelude.{◌≡◌, List, ℕ, ◌≤◌, length, None};
 ghost use Rattle.rules.specs.Rule.{Leaf, Rule};
 ghost use Rattle.rules.specs.Rule.{size as size_of};
 ghost use Rattle.image.specs.Kinds.{named_kind};
 ghost use Rattle.image.specs.Decode.{leaf_meaning, meaning, cell_at};
 ghost use Rattle.image.specs.Inner.EncodedAt.{EncodedAt};
-ghost use Rattle.image.specs.Inner.Subtree.{ValidSubtree};
 ghost use Rattle.store_table.specs.Stores.{Entry, twin_of, entries_in};
-ghost use Rattle.store_table.specs.Inner.Index.{IndexedAll};
-ghost use Rattle.verdict.specs.Inner.Grades.{Graded, name_grade, GradedAll, WithStores};
+ghost use Rattle.verdict.specs.Inner.Grades.{Graded, name_grade, GradedAll};
 ghost use Rattle.verdict.specs.Check.{unknown_in};
 
-use crate::{OLDEST, Unknown};
-use image::{name_of, node_at};
-use lookup::find;
-use store_table::{Found, Twin, WRITE_ONLY, mode_at};
+use crate::OLDEST;
+use image::Image;
+use lookup::IndexedTable;
+use store_table::WRITE_ONLY;
 
 // The grade of a leaf that is no name: 2 where it says evict with nothing confirmed, else 0. Each kind by its own line.
 fn test_grade(kind: u32, arg: u64) -> u8
-    ensures { (s : List ℕ) (n : ℕ) (es : List Entry) (l : Leaf) → meaning s n kind arg ≡ leaf_meaning l → (kind ≡ named_kind → ⊥) → twin_of es ≡ Twin.No → Graded l es result }
+    ensures { (s : List ℕ) (n : ℕ) (es : List Entry) (l : Leaf) → meaning s n kind arg ≡ leaf_meaning l → (kind ≡ named_kind → ⊥) → twin_of es ≡ None → Graded l es result }
 {
     match kind {
         image::OLDER_THAN => {
             let old = arg <= OLDEST;
-            if old {
-                return 2;
-            }
-            0
+            if old { 2 } else { 0 }
         }
         image::READABLE => {
             let met = arg <= 0;
-            if met {
-                return 2;
-            }
-            0
+            if met { 2 } else { 0 }
         }
         _ => 0,
     }
@@ -46,32 +39,22 @@ fn name_grade(mode: u8) -> u8
     if mode == WRITE_ONLY { 1 } else { 0 }
 }
 
-// Writes the grade of each leaf of an image, up to the first node that names no store.
-pub fn grade_leaves(
-    image: &[u8],
-    n: usize,
-    stores: &[u8],
-    starts: &[u16; 64],
-    slots: &[u8; 512],
-    grades: &mut [u8],
-) -> Unknown
-    requires { ValidSubtree image.now n 0 n × ((n ≤ length grades.old) × (WithStores stores.now × IndexedAll stores.now starts.now slots.now)) }
-    ensures { ((ρ : Rule) → size_of ρ ≡ n → EncodedAt ρ (cell_at image.now n) 0 → result ≡ unknown_in (entries_in stores.now) ρ 0) × (result ≡ Unknown.No → GradedAll image.now n grades.new (entries_in stores.now)) }
+// Writes the grade of each leaf of an image; answers the first node that names no store, if there is one.
+pub fn grade_leaves(image: Image, stores: IndexedTable, grades: &mut [u8]) -> Option<usize>
+    requires { (image.nodes ≤ length grades.old) × (twin_of (entries_in stores.table.bytes.now) ≡ None) }
+    ensures { ((ρ : Rule) → size_of ρ ≡ image.entry.nodes → EncodedAt ρ (cell_at image.entry.bytes.now image.entry.nodes) 0 → result ≡ unknown_in (entries_in stores.entry.table.bytes.now) ρ 0) × (result ≡ None → GradedAll image.entry.bytes.now image.entry.nodes grades.new (entries_in stores.entry.table.bytes.now)) }
 {
-    let mut i = 0;
-    while i < n {
-        let node = node_at(image, n, i);
+    for i in 0..image.nodes {
+        let node = image.node(i);
         let kind = node.kind;
-        let arg = node.arg;
         if kind == image::NAMED {
-            let Found::At(k) = find(name_of(image, n, arg), stores, starts, slots) else {
-                return Unknown::At(i);
+            let Some(k) = stores.find(image.name(node.arg)) else {
+                return Some(i);
             };
-            grades[i] = name_grade(mode_at(stores, k));
+            grades[i] = name_grade(stores.table.mode(k));
         } else {
-            grades[i] = test_grade(kind, arg);
+            grades[i] = test_grade(kind, node.arg);
         }
-        i += 1;
     }
-    Unknown::No
+    None
 }

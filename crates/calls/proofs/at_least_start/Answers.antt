@@ -1,59 +1,29 @@
--- `calls::at_least_start` meets its contract: by the word that is expected, its count and the comma after it. Assumes nothing.
-use mathlib.Core.Path.{refl, sym, ◌∙◌}
+-- `calls::at_least_start` meets its contract: by the count that is expected, and the comma after it. Assumes nothing.
+use mathlib.Core.Path.{◌≡◌, ◌∙◌}
 use native.Mathlib.Omega.{arith}
-use Rattle.tokens.specs.Token.{next_of}
-use Rattle.decimal.specs.Count.{count_of}
+use borrow.Author.Rules.{rules}
+use Rattle.std.specs.Prelude.{Err}
 use Rattle.grammar.specs.Grammar.{at_least_start}
-use Rattle.classes.specs.Class.{comma}
-use Rattle.grammar.proofs.Laws.TokenListLaws.{first_place_lem, after_on, word_expected, word_part, steps}
-use Rattle.grammar.proofs.Laws.StartLaws.{begins_refused, begins_list, told}
-use Rattle.grammar.proofs.Tags.{no_word, no_sign}
-use borrow.Enum.Refused.{opened}
+use Rattle.grammar.proofs.Laws.StartLaws.{begins_err, begins_refused, begins_list}
 use Rattle.calls.proofs.at_least_start.Goals as goal
 
-pub returns-in_default : goal.returns-in_default
+pub returns-in_err-least : goal.returns-in_err-least
 unfolding at_least_start
-returns-in_default c =
-    begins_refused c.refuse.ensures c.place_of.ensures
-    (rw (no_word _ _ c.token_at-t.ensures (opened c.in_default.in_default-own.keys2)))
+returns-in_err-least c =
+    let e : c.from_residual.result ≡ Err c.in_err-least.field-0.0 = search rules in
+    begins_err e (c.in_err-least.ensures _)
 
-pub word_of-requires : goal.word_of-requires
-word_of-requires c =
-    let w = word_part _ _ (sym c.token_at-t.ensures ∙ c.in-Word.is) in
-    omega arith
-
-pub returns-in_default-parse_count : goal.returns-in_default-parse_count
+pub returns-in_err-next : goal.returns-in_err-next
 unfolding at_least_start
-returns-in_default-parse_count c =
-    begins_refused c.refuse-in_default-parse_count.ensures refl
-    (rw (
-      word_expected _ _ (sym c.token_at-t.ensures ∙ c.in-Word.is),
-      told count_of c.word_of.ensures c.parse_count.ensures c.in_default-parse_count.is,
-    ))
-
-pub returns-in_default-comma : goal.returns-in_default-comma
-unfolding at_least_start
-returns-in_default-comma c =
-    let next = c.token_at-comma.ensures in
-    begins_refused c.refuse-in_default-comma.ensures c.place_of-in_default-comma.ensures
-    (rw (
-      word_expected _ _ (sym c.token_at-t.ensures ∙ c.in-Word.is),
-      told count_of c.word_of.ensures c.parse_count.ensures c.in-Value.is,
-      no_sign _ _ next comma tt (opened c.in_default-comma.in_default-comma-own.keys2),
-      first_place_lem _ _ (sym next),
-    ))
+returns-in_err-next c =
+    let n = c.in_ok-least.ensures in
+    let s = c.in_err-next.ensures in
+    let e : c.from_residual-in_err-next.result ≡ Err c.in_err-next.field-0.0 = search rules in
+    begins_refused e s.1 (n.0 _ ∙ rw s.0)
 
 pub returns : goal.returns
-unfolding at_least_start next_of
+unfolding at_least_start
 returns c =
-    let word = sym c.token_at-t.ensures ∙ c.in-Word.is in
-    let next = sym c.token_at-comma.ensures ∙ c.in-Comma.is in
-    let first = steps _ _ word refl in
-    let second = steps _ _ next refl in
-    begins_list
-    (rw (
-      word_expected _ _ word,
-      told count_of c.word_of.ensures c.parse_count.ensures c.in-Value.is,
-      after_on _ _ next refl comma refl,
-    ))
-    (omega arith)
+    let n = c.in_ok-least.ensures in
+    let s = c.in_ok-next.ensures in
+    begins_list (n.0 _ ∙ rw s.0) (omega arith)

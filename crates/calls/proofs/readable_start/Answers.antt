@@ -1,59 +1,29 @@
--- `calls::readable_start` meets its contract: by the word that is expected, its count and the bracket after it. Assumes nothing.
-use mathlib.Core.Path.{refl, sym, ◌∙◌}
+-- `calls::readable_start` meets its contract: by the count that is expected, and the bracket after it. Assumes nothing.
+use mathlib.Core.Path.{◌≡◌, ◌∙◌}
 use native.Mathlib.Omega.{arith}
-use Rattle.tokens.specs.Token.{next_of}
-use Rattle.decimal.specs.Count.{count_of}
+use borrow.Author.Rules.{rules}
+use Rattle.std.specs.Prelude.{Err}
 use Rattle.grammar.specs.Grammar.{readable_start}
-use Rattle.classes.specs.Class.{close_bracket}
-use Rattle.grammar.proofs.Laws.TokenListLaws.{first_place_lem, after_on, word_expected, word_part, steps}
-use Rattle.grammar.proofs.Laws.StartLaws.{begins_refused, begins_leaf, told}
-use Rattle.grammar.proofs.Tags.{no_word, no_sign}
-use borrow.Enum.Refused.{opened}
+use Rattle.grammar.proofs.Laws.StartLaws.{begins_err, begins_refused, begins_leaf}
 use Rattle.calls.proofs.readable_start.Goals as goal
 
-pub returns-in_default : goal.returns-in_default
+pub returns-in_err-count : goal.returns-in_err-count
 unfolding readable_start
-returns-in_default c =
-    begins_refused c.refuse.ensures c.place_of.ensures
-    (rw (no_word _ _ c.token_at-t.ensures (opened c.in_default.in_default-own.keys2)))
+returns-in_err-count c =
+    let e : c.from_residual.result ≡ Err c.in_err-count.field-0.0 = search rules in
+    begins_err e (c.in_err-count.ensures _)
 
-pub word_of-requires : goal.word_of-requires
-word_of-requires c =
-    let w = word_part _ _ (sym c.token_at-t.ensures ∙ c.in-Word.is) in
-    omega arith
-
-pub returns-in_default-parse_count : goal.returns-in_default-parse_count
+pub returns-in_err-next : goal.returns-in_err-next
 unfolding readable_start
-returns-in_default-parse_count c =
-    begins_refused c.refuse-in_default-parse_count.ensures refl
-    (rw (
-      word_expected _ _ (sym c.token_at-t.ensures ∙ c.in-Word.is),
-      told count_of c.word_of.ensures c.parse_count.ensures c.in_default-parse_count.is,
-    ))
-
-pub returns-in_default-shut : goal.returns-in_default-shut
-unfolding readable_start
-returns-in_default-shut c =
-    let next = c.token_at-shut.ensures in
-    begins_refused c.refuse-in_default-shut.ensures c.place_of-in_default-shut.ensures
-    (rw (
-      word_expected _ _ (sym c.token_at-t.ensures ∙ c.in-Word.is),
-      told count_of c.word_of.ensures c.parse_count.ensures c.in-Value.is,
-      no_sign _ _ next close_bracket tt (opened c.in_default-shut.in_default-shut-own.keys2),
-      first_place_lem _ _ (sym next),
-    ))
+returns-in_err-next c =
+    let n = c.in_ok-count.ensures in
+    let s = c.in_err-next.ensures in
+    let e : c.from_residual-in_err-next.result ≡ Err c.in_err-next.field-0.0 = search rules in
+    begins_refused e s.1 (n.0 _ ∙ rw s.0)
 
 pub returns : goal.returns
-unfolding readable_start next_of
+unfolding readable_start
 returns c =
-    let word = sym c.token_at-t.ensures ∙ c.in-Word.is in
-    let next = sym c.token_at-shut.ensures ∙ c.in-Close.is in
-    let first = steps _ _ word refl in
-    let second = steps _ _ next refl in
-    begins_leaf
-    (rw (
-      word_expected _ _ word,
-      told count_of c.word_of.ensures c.parse_count.ensures c.in-Value.is,
-      after_on _ _ next refl close_bracket refl,
-    ))
-    (omega arith)
+    let n = c.in_ok-count.ensures in
+    let s = c.in_ok-next.ensures in
+    begins_leaf (n.0 _ ∙ rw s.0) (omega arith)

@@ -11,6 +11,9 @@ use lib.Dec.{T, eqb, eqb→eq}
 use lib.ListN.{get_or}
 use Rattle.ascii.proofs.Laws.TestLaws.{is_so, is_not}
 use Rattle.classes.specs.Class.{class_of, of_class}
+use Rattle.classes.specs.Inner.ClassNumber.{class_number}
+use Rattle.classes.specs.declared.Class.{Class}
+use Rattle.classes.specs.declared.Class.TheVariants.{Blank}
 use Rattle.classes.specs.Inner.ClassTable.{faults_to, faults, IsClassTable}
 
 none_here : (v : Bool) (n : ℕ) → cond v n (suc n) ≡ 0 → T v
@@ -21,16 +24,16 @@ none_below : (v : Bool) (n : ℕ) → cond v n (suc n) ≡ 0 → n ≡ 0
 none_below true n e = e
 none_below false n e = absurd (omega arith)
 
-up_to_lem : (l : List ℕ) (n : ℕ) → faults_to n l ≡ 0 → (k : ℕ) → k < n → get_or l k 0 ≡ class_of k
+up_to_lem : (l : List Class) (n : ℕ) → faults_to n l ≡ 0 → (k : ℕ) → k < n → class_number (get_or l k Blank) ≡ class_of k
 unfolding faults_to
 up_to_lem l zero e k h = absurd (not-suc-le-zero h)
 up_to_lem l (suc n) e k h =
     ⊎_elim
-    (λ (q : k ≡ n). rw q (eqb→eq (get_or l n 0) (class_of n) (none_here (eqb (get_or l n 0) (class_of n)) (faults_to n l) e)))
-    (λ (q : k < n). up_to_lem l n (none_below (eqb (get_or l n 0) (class_of n)) (faults_to n l) e) k q)
+    (λ (q : k ≡ n). rw q (eqb→eq (class_number (get_or l n Blank)) (class_of n) (none_here (eqb (class_number (get_or l n Blank)) (class_of n)) (faults_to n l) e)))
+    (λ (q : k < n). up_to_lem l n (none_below (eqb (class_number (get_or l n Blank)) (class_of n)) (faults_to n l) e) k q)
     (eq-or-lt_of_le (le_of_suc-le-suc h))
 
-pub table_at : (l : List ℕ) → IsClassTable l → (b : ℕ) → b < 256 → get_or l b 0 ≡ class_of b
+pub table_at : (l : List Class) → IsClassTable l → (b : ℕ) → b < 256 → class_number (get_or l b Blank) ≡ class_of b
 unfolding faults
 table_at l e b h = up_to_lem l 256 e b h
 

@@ -1,13 +1,12 @@
--- `confirmed::mark_confirmed` meets its contract: the marks are those of the first k names of the list. Assumes nothing.
-use Prim.Native.Nat.{◌-◌}
+-- `confirmed::mark_confirmed` meets its contract: the marks are those of the names that the walk has passed. Assumes nothing.
+use mathlib.Core.Path.{◌≡◌}
 use lib.ListN.{take}
 use Rattle.store_table.specs.Stores.{entries_in, all_names}
-use Rattle.store_table.specs.Inner.Index.{Marked, EntryWalk}
+use Rattle.store_table.specs.Inner.Index.{Marked}
 use Rattle.confirmed.proofs.mark_confirmed.Given as goal
 
-abbrev pub invariant-loop-k : goal.invariant-loop-k
-invariant-loop-k l =
-    EntryWalk l.list l.count l.k l.at × Marked (entries_in l.stores) (all_names (take l.k (entries_in l.list))) l.marks
-
-abbrev pub decreases-loop-k : goal.decreases-loop-k
-decreases-loop-k l = l.count - l.k
+abbrev pub invariant-loop-place : goal.invariant-loop-place
+invariant-loop-place l =
+    let i = l.place-iterator in
+    let s = l.list.bytes.now in
+    (i.table.bytes.now ≡ s) × Marked (entries_in l.stores.table.bytes.now) (all_names (take i.index (entries_in s))) l.marks

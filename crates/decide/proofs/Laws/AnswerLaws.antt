@@ -1,50 +1,52 @@
 -- What deciding answers, by whether the bytes are an image, and by what evaluating the image's rule says. Assumes nothing.
 use mathlib.Core.Path.{◌≡◌, sym, ap, ◌∙◌}
 use mathlib.Core.Bool.{Bool, true, false}
-use mathlib.Core.List.{List}
+use mathlib.Core.List.{List, [], ◌∷◌}
 use Prim.Native.Nat.{ℕ}
-use Rattle.refusals.specs.Refusals.{refusal, bad_image, bad_store_table, twin_name, bad_confirmed_list}
+use Rattle.refusals.specs.declared.Refusal.{Refusal}
+use Rattle.refusals.specs.Refusals.{refusal}
+use Rattle.refusals.specs.declared.Cause.TheVariants.{BadImage, BadConfirmedList}
+use Rattle.decide.specs.Tests.{list_test}
+use Rattle.decide.specs.Inner.StoresTest.{stores_test}
+use Rattle.decide.proofs.Laws.TestsLaws.{tests_refuse}
 use Rattle.rules.specs.Rule.{Rule, size}
 use Rattle.image.specs.Layout.{node_count_in}
 use Rattle.image.specs.Decode.{cell_at, decode}
 use Rattle.image.specs.Inner.Valid.{is_some}
 use Rattle.image.proofs.Laws.FitLaws.{is_some_true, is_some_false}
-use Rattle.store_table.specs.Stores.{is_table, is_list, entries_in, all_names, ready_count, twin_of}
-use Rattle.store_table.specs.declared.Twin.TheVariants.{No, At}
+use Rattle.store_table.specs.Stores.{is_table, is_list, entries_in, twin_of}
+use Rattle.std.specs.Prelude.{None, Some, Err}
 use Rattle.image.specs.Inner.EncodedAt.{EncodedAt}
-use Rattle.evaluate.specs.Evict.{evict}
-use Rattle.decide.specs.Decide.{decision_of, decide_of}
-use Rattle.decide.proofs.Laws.DecideLaws.{decide_16, decide_17, decide_18, decide_19, decide_says}
+use Rattle.evaluate.specs.Evict.{env_of, evict}
+use Rattle.evaluate.specs.Inner.Known.{env_in}
+use Rattle.decide.specs.Decide.{decision_of, list_names, decide_of}
+use Rattle.decide.proofs.Laws.DecideLaws.{decide_rule_lem, decide_16, decide_19, decide_says}
 use Rattle.image.proofs.Laws.InsideLaws.{decode_whole}
-use Rattle.decide.specs.declared.Decision.TheVariants.{Refused}
 
 -- of bytes i, s and l, and an age a
 module _ (i s : List ℕ) (a : ℕ) (l : List ℕ) where
-  pub refused_16 : is_some (decode i) ≡ false → Refused (refusal bad_image 0) ≡ decide_of i s a l
+  pub refused_16 : is_some (decode i) ≡ false → Err (refusal BadImage 0) ≡ decide_of i s a l
   refused_16 e = sym (decide_16 i s a l (is_some_false (decode i) e))
 
   -- the bytes are an image
   module _ (image : is_some (decode i) ≡ true) where
-    pub refused_17 : is_table s ≡ false → Refused (refusal bad_store_table 0) ≡ decide_of i s a l
-    refused_17 e = let (r, p) = is_some_true (decode i) image in sym (decide_17 i s a l p e)
+    pub refused_stores : {f : Refusal} → stores_test s ≡ Some f → Err f ≡ decide_of i s a l
+    refused_stores e =
+        let (r, p) = is_some_true (decode i) image in
+        tests_refuse s Err (list_test l ∷ []) (decision_of (evict r (env_of (entries_in s) a (list_names l)))) e
+        ∙ sym (decide_rule_lem i s a l p)
 
     -- the stores are a table
     module _ (table : is_table s ≡ true) where
-      pub refused_18 : {n : ℕ} → twin_of (entries_in s) ≡ At n → Refused (refusal twin_name n) ≡ decide_of i s a l
-      refused_18 e = let (r, p) = is_some_true (decode i) image in sym (decide_18 i s a l p table e)
-
       -- of which no two share a name
-      module _ (no_twin : twin_of (entries_in s) ≡ No) where
-        pub refused_19 : is_list l ≡ false → Refused (refusal bad_confirmed_list 0) ≡ decide_of i s a l
+      module _ (no_twin : twin_of (entries_in s) ≡ None) where
+        pub refused_19 : is_list l ≡ false → Err (refusal BadConfirmedList 0) ≡ decide_of i s a l
         refused_19 e = let (r, p) = is_some_true (decode i) image in sym (decide_19 i s a l p table no_twin e)
 
         -- b is the answer of whatever rule has all n nodes
-        pub answered : {n ready : ℕ} → is_list l ≡ true → n ≡ node_count_in i →
-            ready ≡ ready_count (entries_in s) (all_names (entries_in l)) → (b : Bool) →
-            ((r : Rule) → size r ≡ n → EncodedAt r (cell_at i n) 0 → b ≡ evict r (record { age = a; ready = ready; names = all_names (entries_in l) })) →
-            decision_of b ≡ decide_of i s a l
-        answered is p c b says =
+        pub answered : {n : ℕ} → is_list l ≡ true → n ≡ node_count_in i → (b : Bool) →
+            ((r : Rule) → size r ≡ n → EncodedAt r (cell_at i n) 0 → b ≡ evict r (env_in s a l)) → decision_of b ≡ decide_of i s a l
+        answered is p b says =
             let (r, e) = is_some_true (decode i) image in
             let w = decode_whole i p e in
-            let q = rw c at (says r w.sized w.stands) in
-            ap decision_of q ∙ sym (decide_says i s a l e table no_twin is)
+            ap decision_of (says r w.sized w.stands) ∙ sym (decide_says i s a l e table no_twin is)

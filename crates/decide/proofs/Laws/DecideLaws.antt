@@ -4,20 +4,20 @@ use mathlib.Core.Bool.{true, false}
 use mathlib.Core.List.{List}
 use mathlib.Core.Option.{none, some}
 use Prim.Native.Nat.{ℕ}
-use Rattle.refusals.specs.Refusals.{refusal, bad_image, bad_store_table, twin_name, bad_confirmed_list}
+use Rattle.refusals.specs.Refusals.{refusal}
+use Rattle.refusals.specs.declared.Cause.TheVariants.{BadImage, BadStoreTable, TwinName, BadConfirmedList}
 use Rattle.rules.specs.Rule.{Rule}
 use Rattle.image.specs.Encode.{encode, Fits}
 use Rattle.image.specs.Decode.{decode}
 use Rattle.image.proofs.Laws.ImageLaws.{encode_bytes, decode_encode}
 use Rattle.store_table.specs.Stores.{is_table, is_list, entries_in, twin_of}
-use Rattle.store_table.specs.declared.Twin.TheVariants.{No, At}
+use Rattle.std.specs.Prelude.{None, Some, Err}
 use Rattle.evaluate.specs.Evict.{env_of, evict}
 use Rattle.decide.specs.Decide.{decision_of, list_names, decide_rule, decide_of}
-use Rattle.decide.specs.declared.Decision.TheVariants.{Refused}
 
 -- of bytes i, s and l, and an age a
 module _ (i s : List ℕ) (a : ℕ) (l : List ℕ) where
-  pub decide_16 : decode i ≡ none → decide_of i s a l ≡ Refused (refusal bad_image 0)
+  pub decide_16 : decode i ≡ none → decide_of i s a l ≡ Err (refusal BadImage 0)
   unfolding decide_of
   decide_16 e = rw e
 
@@ -27,19 +27,19 @@ module _ (i s : List ℕ) (a : ℕ) (l : List ℕ) where
     unfolding decide_of
     decide_rule_lem = rw image
 
-    pub decide_17 : is_table s ≡ false → decide_of i s a l ≡ Refused (refusal bad_store_table 0)
+    pub decide_17 : is_table s ≡ false → decide_of i s a l ≡ Err (refusal BadStoreTable 0)
     unfolding decide_of
     decide_17 e = rw (image, e)
 
     -- the stores are a table
     module _ (table : is_table s ≡ true) where
-      pub decide_18 : {n : ℕ} → twin_of (entries_in s) ≡ At n → decide_of i s a l ≡ Refused (refusal twin_name n)
+      pub decide_18 : {n : ℕ} → twin_of (entries_in s) ≡ Some n → decide_of i s a l ≡ Err (refusal TwinName n)
       unfolding decide_of
       decide_18 e = rw (image, table, e)
 
       -- of which no two share a name
-      module _ (no_twin : twin_of (entries_in s) ≡ No) where
-        pub decide_19 : is_list l ≡ false → decide_of i s a l ≡ Refused (refusal bad_confirmed_list 0)
+      module _ (no_twin : twin_of (entries_in s) ≡ None) where
+        pub decide_19 : is_list l ≡ false → decide_of i s a l ≡ Err (refusal BadConfirmedList 0)
         unfolding decide_of
         decide_19 e = rw (image, table, no_twin, e)
 

@@ -1,69 +1,66 @@
 -- `details::append_node` meets its contract: the text is read into a buffer, and the node's name is in the image there.
 use mathlib.Core.Path.{◌≡◌, refl, sym}
 use native.Mathlib.Omega.{arith}
-use lib.ListN.{take, length-take}
+use Prim.Native.Nat.{◌≤◌}
+use lib.ListN.{length, take, length-take}
 use lib.Seq.{length-take-le}
 use Rattle.slices.proofs.Laws.WrittenLaws.{written_at_none}
 use Rattle.lines.specs.Lines.{shown_all}
-use Rattle.image.specs.Kinds.{named_kind}
-use Rattle.image.specs.Inner.Subtree.{NameInside}
-use Rattle.image.proofs.Laws.CellLaws.{name_inside}
+use Rattle.grammar.proofs.Laws.FitsLaws.{read_decodes}
 use Rattle.read.proofs.Laws.FoundLaws.{Found, read_refused, read_rule}
-use Rattle.page_text.proofs.Laws.NodeNameLaws.{taken_short, taken_whole, name_past, name_here, name_not}
+use Rattle.page_text.proofs.Laws.NodeNameLaws.{taken_short, name_past, name_here, name_not}
 use borrow.Author.Rules.{rules}
 use Rattle.details.proofs.append_node.Goals as goal
-use Rattle.details.proofs.append_node.Goals.{After-node_at-node, In-Read}
+use Rattle.details.proofs.append_node.Goals.{After-of-rule, In-Ok}
+use Rattle.image.specs.Layout.{node_count_in}
+use Rattle.image.proofs.Laws.WholeLaws.{its_name}
 
 -- the rule that the text reads as, in the buffer
-the_rule : (c : In-Read) →
-    Found c.args.text.now c.in-Read.size c.read.new.image
-the_rule c = read_rule _ _ (search rules) c.read.ensures c.in-Read.is
+the_rule : (c : In-Ok) →
+    Found c.args.text.now c.in-Ok.size c.read.new.image
+the_rule c = read_rule _ _ (search rules) c.read.ensures c.in-Ok.is
 
 pub returns-in_default : goal.returns-in_default
 unfolding shown_all
 returns-in_default c = rw (read_refused _ _ (search rules) c.read.ensures c.in_default.is) (written_at_none _ _)
 
 pub slice_bounds-image-end : goal.slice_bounds-image-end
-slice_bounds-image-end c = (the_rule (goal.at.slice_bounds-image-end c).In-Read).within
+slice_bounds-image-end c = (the_rule (goal.at.slice_bounds-image-end c).In-Ok).within
 
-pub slice_bounds-written-end : goal.slice_bounds-written-end
-slice_bounds-written-end c = sym (length-take-le _ _ (the_rule (goal.at.slice_bounds-written-end c).In-Read).within)
+pub slice_bounds-of-end : goal.slice_bounds-of-end
+slice_bounds-of-end c = sym (length-take-le _ _ (the_rule (goal.at.slice_bounds-of-end c).In-Ok).within)
 
-pub node_count-n-requires : goal.node_count-n-requires
-node_count-n-requires c = omega (arith, (taken_whole (the_rule (goal.at.node_count-n-requires c).In-Read) refl).inside.long)
+pub of-rule-requires : goal.of-rule-requires
+of-rule-requires c =
+    let g = the_rule (goal.at.of-rule-requires c).In-Ok in
+    rw (g.taken, read_decodes c.args.text.now g.read g.says) refl
 
-pub returns-then-n-index : goal.returns-then-n-index
+-- how many nodes it has
+counted : (c : After-of-rule) → c.of-rule.result.nodes ≡ node_count_in (take c.in-Ok.size c.read.new.image)
+counted c = rw c.of-rule.ensures at c.of-rule.result.counted
+
+pub returns-then-rule-index : goal.returns-then-rule-index
 unfolding shown_all
-returns-then-n-index c = rw (name_past (the_rule (goal.at.returns-then-n-index c).In-Read) c.node_count-n.ensures.0 c.if-n-index.true) (written_at_none _ _)
+returns-then-rule-index c =
+    rw (name_past (the_rule (goal.at.returns-then-rule-index c).In-Ok) (counted (goal.at.returns-then-rule-index c).After-of-rule) c.if-rule-index.true) (written_at_none _ _)
 
-pub node_at-node-requires : goal.node_at-node-requires
-node_at-node-requires c = ((taken_whole (the_rule (goal.at.node_at-node-requires c).In-Read) c.node_count-n.ensures.0).inside.long, c.if-n-index.false)
-
--- a name's bytes lie in it
-name_within : (c : After-node_at-node) →
-    c.node_at-node.result.kind ≡ named_kind →
-    NameInside (take c.in-Read.size c.read.new.image) c.node_count-n.result c.node_at-node.result.arg
-name_within c k =
-    let w = taken_whole (read_rule _ _ (search rules) c.read.ensures c.in-Read.is) c.node_count-n.ensures.0 in
-    name_inside _ _ _ c.node_at-node.ensures w.inside.names c.if-n-index.false k
-
-pub name_of-requires : goal.name_of-requires
-name_of-requires c = name_within (goal.at.name_of-requires c).After-node_at-node (search rules)
+pub name-requires : goal.name-requires
+name-requires c = its_name c.of-rule.result _ c.node-node.ensures c.if-rule-index.false c.if-named.true
 
 pub append_shown-requires : goal.append_shown-requires
 append_shown-requires c =
-    rw c.name_of.ensures
-    (simp length-take (omega (arith, taken_short (the_rule (goal.at.append_shown-requires c).In-Read), name_within (goal.at.append_shown-requires c).After-node_at-node (search rules))))
+    let within = its_name c.of-rule.result _ c.node-node.ensures c.if-rule-index.false c.if-named.true in
+    let short : length c.of-rule.result.bytes.now ≤ 26_628 = rw c.of-rule.ensures (taken_short (the_rule (goal.at.append_shown-requires c).In-Ok)) in
+    rw c.name.ensures (simp length-take (omega (arith, short, within)))
 
 pub returns-then-named : goal.returns-then-named
 returns-then-named c =
-    rw (name_here (the_rule (goal.at.returns-then-named c).In-Read)
-    c.node_count-n.ensures.0 c.node_at-node.ensures
-    c.if-n-index.false (search rules) c.name_of.ensures)
+    rw (name_here (the_rule (goal.at.returns-then-named c).In-Ok) (counted (goal.at.returns-then-named c).After-of-rule)
+    (rw c.of-rule.ensures at c.node-node.ensures) c.if-rule-index.false c.if-named.true (rw c.of-rule.ensures at c.name.ensures))
     c.append_shown.ensures
 
 pub returns : goal.returns
 unfolding shown_all
 returns c =
-    rw (name_not (the_rule (goal.at.returns c).In-Read) c.node_count-n.ensures.0 c.node_at-node.ensures
-    c.if-n-index.false (search rules)) (written_at_none _ _)
+    rw (name_not (the_rule (goal.at.returns c).In-Ok) (counted (goal.at.returns c).After-of-rule)
+    (rw c.of-rule.ensures at c.node-node.ensures) c.if-rule-index.false c.if-named.false) (written_at_none _ _)

@@ -1,52 +1,52 @@
--- `details::append_write_only` meets its contract: after k stores the lines of the write-only ones among them are written. Assumes nothing.
-use Prim.Native.Nat.{◌+◌, ◌≤◌}
+-- `details::append_write_only` meets its contract: the lines of the write-only stores that the walk has passed are written. Assumes nothing.
+use mathlib.Core.Path.{refl, ◌∙◌}
 use native.Mathlib.Omega.{arith}
-use lib.ListN.{length}
-use Rattle.store_table.proofs.Laws.WalkLaws.{standing_within}
+use Rattle.store_table.specs.Inner.Index.{Next}
 use Rattle.page_text.proofs.Laws.ReportLaws.{named_start, named_length, named_end, named_room, named_no, named_yes}
-use borrow.Author.Rules.{rules}
 use Rattle.details.proofs.append_write_only.Goals as goal
-use Rattle.details.proofs.append_write_only.Goals.{After-length_at-len}
+use Rattle.details.proofs.append_write_only.Goals.{In-Some}
 
--- the name of store k lies within the bytes
-inside : (c : After-length_at-len) →
-    c.loop-k.start + c.length_at-len.result ≤ length c.args.stores.now
-inside c = omega (arith, standing_within c.loop-k.invariant.stands c.loop-k-test.true c.length_at-len.ensures.0)
+-- what the walk gave
+step : (c : In-Some) →
+    Next c.args.stores.bytes.now c.loop-place.place-iterator.index c.in-Some.place.index c.in-Some.place.start c.in-Some.place.name.now
+    c.next.new.self.index
+step c = rw c.loop-place.invariant.0 at c.in-Some.ensures.steps.1
 
-pub loop-k-init : goal.loop-k-init
-loop-k-init c = rw c.names_start-start.ensures (named_start _ _ _ _ c.requires.0 c.count_of-count.ensures.0)
+pub loop-place-init : goal.loop-place-init
+loop-place-init c =
+    let e = c.entries-place-items.ensures in
+    rw (c.into_iter-place-iterator.ensures.into_iter_gives, e.0, e.1) (refl, named_start _ _ _)
 
-pub length_at-len-requires : goal.length_at-len-requires
-length_at-len-requires c = let h = c.loop-k.invariant.stands in (h.in_bounds, (h.counted, omega arith))
-
-pub mode_at-requires : goal.mode_at-requires
-mode_at-requires c = let h = c.loop-k.invariant.stands in (h.in_bounds, omega arith)
-
-pub overflow_add-start : goal.overflow_add-start
-overflow_add-start c = omega (arith, inside (goal.at.overflow_add-start c).After-length_at-len)
-
-pub slice_bounds-append_confirmed-end : goal.slice_bounds-append_confirmed-end
-slice_bounds-append_confirmed-end c = omega (arith, inside (goal.at.slice_bounds-append_confirmed-end c).After-length_at-len)
+pub mode-requires : goal.mode-requires
+mode-requires c = let n = step (goal.at.mode-requires c).In-Some in omega (arith, n.same, n.below)
 
 pub append_confirmed-end-requires : goal.append_confirmed-end-requires
 append_confirmed-end-requires c =
-    named_room c.loop-k.invariant c.requires.1 c.loop-k-test.true c.length_at-len.ensures.0 c.mode_at.ensures (search rules)
+    let n = step (goal.at.append_confirmed-end-requires c).In-Some in
+    named_room c.loop-place.invariant.1 c.args.stores.in_bounds c.requires n.at (rw n.same at c.mode.ensures) c.if-mode-eq-WRITE_ONLY.true
 
-pub overflow_add-start-in-loop-k : goal.overflow_add-start-in-loop-k
-overflow_add-start-in-loop-k c = omega (arith, inside (goal.at.overflow_add-start-in-loop-k c).After-length_at-len)
+pub loop-place-preserved : goal.loop-place-preserved
+loop-place-preserved c =
+    let i = c.loop-place.invariant in
+    let n = step (goal.at.loop-place-preserved c).In-Some in (
+      c.in-Some.ensures.steps.0 ∙ i.0,
+      rw n.moved (named_no i.1 c.args.stores.in_bounds c.requires n.at (rw n.same at c.mode.ensures) c.if-mode-eq-WRITE_ONLY.false),
+    )
 
-pub loop-k-preserved : goal.loop-k-preserved
-loop-k-preserved c =
-    search (
-      rules,
-      named_yes c.loop-k.invariant c.requires.1 c.loop-k-test.true c.length_at-len.ensures.0 c.mode_at.ensures,
-      named_no c.loop-k.invariant c.requires.1 c.loop-k-test.true c.length_at-len.ensures.0 c.mode_at.ensures,
+pub loop-place-preserved-then-mode-eq-WRITE_ONLY : goal.loop-place-preserved-then-mode-eq-WRITE_ONLY
+loop-place-preserved-then-mode-eq-WRITE_ONLY c =
+    let i = c.loop-place.invariant in
+    let n = step (goal.at.loop-place-preserved-then-mode-eq-WRITE_ONLY c).In-Some in (
+      c.in-Some.ensures.steps.0 ∙ i.0,
+      rw n.moved
+          (named_yes i.1 c.args.stores.in_bounds c.requires n.at (rw n.same at c.mode.ensures) c.if-mode-eq-WRITE_ONLY.true
+          c.append_confirmed-end.ensures),
     )
 
 pub shape_of-page : goal.shape_of-page
-shape_of-page c =
-    named_length c.loop-k.invariant c.requires.1
+shape_of-page c = named_length c.loop-place.invariant.1 c.args.stores.in_bounds c.requires
 
 pub returns : goal.returns
 returns c =
-    named_end c.loop-k.invariant c.requires.1 (omega arith)
+    let i = c.loop-place.invariant in
+    named_end i.1 c.args.stores.in_bounds c.requires (rw i.0 at c.in-None.ensures.steps.1.0)

@@ -1,5 +1,5 @@
 -- The program's form of a unit. Assumes nothing.
-use Rattle.std.specs.Prelude.{ℕ, ◌≤◌, ◌≡◌, take, get_or}
+use Rattle.std.specs.Prelude.{ℕ, ◌≡◌, get_or}
 use Rattle.durations.specs.Duration.{NamedUnit, unit, units}
 use Rattle.durations.specs.declared.unit.TimeUnit.{TimeUnit}
 
@@ -7,8 +7,7 @@ use Rattle.durations.specs.declared.unit.TimeUnit.{TimeUnit}
 abbrev pub unit_at : ℕ → NamedUnit
 unit_at rank = get_or units rank (unit "" 0)
 
--- a unit's name, at the front of two bytes, and its milliseconds
+-- the unit's name and its milliseconds
 pub record IsUnit (u : NamedUnit) (t : TimeUnit) : Type 0 where
-  pub len : t.len ≤ 2
-  pub name : take t.len t.name ≡ u.name
+  pub name : t.name.now ≡ u.name
   pub milliseconds : t.milliseconds ≡ u.milliseconds

@@ -1,11 +1,6 @@
--- `endings::next_operand` meets its contract: by whether the sign is there. Assumes nothing.
-use mathlib.Core.Path.{sym, ap, ◌∙◌}
-use Rattle.endings.specs.declared.Operand.TheVariants.{At}
+-- `endings::next_operand` meets its contract: a sign has tokens after it. Assumes nothing.
+use Rattle.grammar.proofs.Laws.SignTestLaws.{test_on}
 use Rattle.endings.proofs.next_operand.Goals as goal
 
-pub returns-in_default : goal.returns-in_default
-returns-in_default c = rw (sym c.sign_at.ensures ∙ c.in_default.is)
-
-pub returns : goal.returns
-returns c =
-    rw (sym c.sign_at.ensures ∙ c.in-To.is) (ap (At c.in-To.next) c.nodes_before_chain.ensures.0)
+pub returns-clause-ahead : goal.returns-clause-ahead
+returns-clause-ahead g c = (test_on _ _ _ c.sign_at.ensures c.in_ok-next.was).bounds

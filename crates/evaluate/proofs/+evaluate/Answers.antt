@@ -17,8 +17,8 @@ use Rattle.evaluate.proofs.+evaluate.Goals.{In-loop-end, then-back-eq1+then-leas
 pub overflow_sub-at : goal.overflow_sub-at
 overflow_sub-at t c = let h = c.requires.0 in omega (arith, size_pos h.here.rule, h.here.sized)
 
-pub node_at-root-requires : goal.node_at-root-requires
-node_at-root-requires t c = let h = c.requires.0 in (h.long, omega (arith, size_pos h.here.rule, h.here.sized, h.within))
+pub node-root-requires : goal.node-root-requires
+node-root-requires t c = let h = c.requires.0 in omega (arith, size_pos h.here.rule, h.here.sized, h.within)
 
 pub bounds-says-at : goal.bounds-says-at
 bounds-says-at t c = let h = c.requires.0 in omega (arith, size_pos h.here.rule, h.here.sized, h.within, c.requires.1)
@@ -27,21 +27,21 @@ pub loop-end-init : goal.loop-end-init
 loop-end-init t c = (omega arith, omega arith, walks_start _ _ _ _)
 
 -- the child that a turn asks
-the_last : (t : ℕ) (c : In-loop-end t) → Last (cell_at c.args.image.now c.args.n) c.args.from c.loop-end.end
+the_last : (t : ℕ) (c : In-loop-end t) → Last (cell_at c.args.nodes.bytes.now c.args.nodes.count) c.args.from c.loop-end.end
 the_last t c =
-    let d = c.node_at-root in
+    let d = c.node-root in
     last _ _ _ _ c.loop-end.invariant.2 c.requires.0.here
-    (λ l e. no_leaf c.args.image.now c.args.n d.result.kind d.result.arg
+    (λ l e. no_leaf c.args.nodes.bytes.now c.args.nodes.count d.result.kind d.result.arg
     (join_kind_no_leaf _ (omega arith) (omega arith)) l (cell_what _ _ _ d.ensures ∙ e)) c.loop-end-test.true
 
 pub overflow_sub-end-in-loop-end : goal.overflow_sub-end-in-loop-end
 overflow_sub-end-in-loop-end t c =
-    omega (arith, last_back (the_last t (goal.at.overflow_sub-end-in-loop-end t c).In-loop-end) (cell_size _ _ _ c.node_at-child.ensures))
+    omega (arith, last_back (the_last t (goal.at.overflow_sub-end-in-loop-end t c).In-loop-end) (cell_size _ _ _ c.node-child.ensures))
 
 pub evaluate-requires : goal.evaluate-requires
 evaluate-requires t c =
     let h = c.requires.0 in
-    let z = cell_size _ _ _ c.node_at-child.ensures in
+    let z = cell_size _ _ _ c.node-child.ensures in
     let l = the_last t (goal.at.evaluate-requires t c).In-loop-end in
     let b = last_back l z in (
       omega (arith, c.loop-end.invariant.0),
@@ -57,16 +57,16 @@ evaluate-requires t c =
 
 pub loop-end-smaller : goal.loop-end-smaller
 loop-end-smaller t c =
-    omega (arith, last_back (the_last t (goal.at.loop-end-smaller t c).In-loop-end) (cell_size _ _ _ c.node_at-child.ensures))
+    omega (arith, last_back (the_last t (goal.at.loop-end-smaller t c).In-loop-end) (cell_size _ _ _ c.node-child.ensures))
 
 -- a turn counts what the child says
 pub loop-end-preserved : goal.loop-end-preserved
 loop-end-preserved t c =
     let i = c.loop-end.invariant in
     let a = c.args in
-    let z = cell_size _ _ _ c.node_at-child.ensures in
+    let z = cell_size _ _ _ c.node-child.ensures in
     let back = last_back (the_last t (goal.at.loop-end-preserved t c).In-loop-end) z in
-    let answered = Answered (cell_at a.image.now a.n) (says_at a.says.now a.least) (c.loop-end.end - c.node_at-child.result.size) c.node_at-child.result.size in
+    let answered = Answered (cell_at a.nodes.bytes.now a.nodes.count) (says_at a.says.now a.least) (c.loop-end.end - c.node-child.result.size) c.node-child.result.size in
     let turn : (b : Bool) × answered b × (c.if-back-eq1.yes ≡ cond b (suc c.loop-end.yes) c.loop-end.yes) =
     elim c.if-back-eq1.branch [
       | then-back-eq1+then-least-says w ↦ (_, one_done _ _ _ _ w.if-back-eq1.true refl, rw (le-leb _ _ w.if-least-says.true) (omega arith))
@@ -83,17 +83,17 @@ loop-end-preserved t c =
 
 pub returns-in-0-to-2 : goal.returns-in-0-to-2
 returns-in-0-to-2 t c =
-    let d = c.node_at-root in
+    let d = c.node-root in
     leaf_done _ _ _ _ (cell_what _ _ _ d.ensures) (no_join _ _ d.result.kind _ (λ h i. omega arith)) (λ l e. refl)
 
 pub returns-after-loop-end : goal.returns-after-loop-end
 returns-after-loop-end t c =
-    let d = c.node_at-root in
+    let d = c.node-root in
     join_done _ _ _ _ c.loop-end.invariant.2 (cell_what _ _ _ d.ensures)
     (no_leaf _ _ d.result.kind _ (join_kind_no_leaf _ (omega arith) (omega arith))) c.loop-end-test.false (c.join_says.ensures _ _)
 
 pub returns-in_default : goal.returns-in_default
 returns-in_default t c =
-    let d = c.node_at-root in
+    let d = c.node-root in
     leaf_done _ _ _ _ (cell_what _ _ _ d.ensures) (no_join _ _ d.result.kind _ (λ h i. omega arith))
     (λ l e. absurd (no_leaf _ _ d.result.kind _ (other_kind _ (λ q. omega arith) (λ q. omega arith) (λ q. omega arith)) l e))

@@ -11,7 +11,7 @@ decreases-evaluate l = l.size
 
 abbrev pub invariant-loop-end : goal.invariant-loop-end
 invariant-loop-end l =
-    (l.total + l.end ≤ l.at) × (l.yes ≤ l.total) × CountWalks (cell_at l.image l.n) (says_at l.says l.least) l.from l.size l.end l.yes l.total
+    (l.total + l.end ≤ l.at) × (l.yes ≤ l.total) × CountWalks (cell_at l.nodes.bytes.now l.nodes.count) (says_at l.says l.least) l.from l.size l.end l.yes l.total
 
 abbrev pub decreases-loop-end : goal.decreases-loop-end
 decreases-loop-end l = l.end

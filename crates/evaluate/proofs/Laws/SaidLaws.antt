@@ -1,5 +1,7 @@
 -- The numbers of an image's leaves, written one node after another. Assumes nothing.
-use mathlib.Core.Path.{◌≡◌}
+use mathlib.Core.Path.{◌≡◌, refl}
+use mathlib.Core.Bool.{Bool, true, false}
+use mir.Val.{bool_byte}
 use mathlib.Core.List.{List}
 use mathlib.Core.Logic.{⊎_elim}
 use Prim.Native.Nat.{ℕ, ◌+◌, ◌≤◌, ◌<◌}
@@ -13,6 +15,11 @@ use Rattle.image.specs.Decode.{leaf_meaning, cell_at}
 use Rattle.evaluate.specs.Evict.{Env, leaf_says}
 use Rattle.image.proofs.Laws.KindLaws.{NoLeaf}
 use Rattle.evaluate.specs.Inner.Known.{SaidTo}
+
+-- the number that a flag makes
+pub flag_says : (b : Bool) → leb 1 (bool_byte b) ≡ b
+flag_says true = refl
+flag_says false = refl
 
 module _ (s : List ℕ) (n : ℕ) (says : List ℕ) (least : ℕ) (w : Env) {i : ℕ} (h : SaidTo s n says least w i) where
   -- node i is no leaf

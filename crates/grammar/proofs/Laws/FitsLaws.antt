@@ -9,12 +9,13 @@ use native.Mathlib.Omega.{arith}
 use borrow.Author.Tests.{ltb-false}
 use lib.Dec.{ltb}
 use lib.ListN.{length}
+use Rattle.std.specs.Prelude.{Result, Ok, Err, ⊤}
+use Rattle.refusals.specs.declared.Refusal.{Refusal}
 use Rattle.slices.specs.Text.{run_end, all_ascii}
-use Rattle.refusals.specs.Refusals.{refusal, long_text, foreign_byte, trailing_token}
+use Rattle.refusals.specs.Refusals.{refusal}
+use Rattle.refusals.specs.declared.Cause.TheVariants.{LongText, ForeignByte, TrailingToken}
 use Rattle.tokens.specs.declared.Token.{Token}
 use Rattle.tokens.specs.declared.Token.TheVariants.{End, Open, Close, Comma, And, Or, Word, Fault}
-use Rattle.tokens.specs.declared.Scanned.{Scanned}
-use Rattle.tokens.specs.declared.Scanned.TheVariants.{Clean, Refused}
 use Rattle.tokens.specs.Token.{ascii, token_at, next_of, onward, tokens_by, tokens_from, scan_of}
 use Rattle.tokens.specs.Inner.Bounds.{Lexed}
 use Rattle.tokens.proofs.Laws.TokenLaws.{lexed}
@@ -41,7 +42,7 @@ module _ (len at : ℕ) where
   onward_within (Comma p n) later l h = omega (arith, h n)
   onward_within (And p n) later l h = omega (arith, h n)
   onward_within (Or p n) later l h = omega (arith, h n)
-  onward_within (Word p a b q n) later l h = omega (arith, h n)
+  onward_within (Word w) later l h = omega (arith, h w.next)
   onward_within (Fault f) later l h = omega arith
 
 tokens_within : (f : ℕ) (s : List ℕ) (at : ℕ) → Within (length s - at) (tokens_by f s at)
@@ -62,7 +63,7 @@ module _ (s : List ℕ) (short : length s ≤ 2048) (low : all_ascii s ≡ true)
   ended_fits : (g : ParseResult) → Holds (MadeRule s (tokens_from s 0)) g → ReadFits (ended g)
   ended_fits (got r us) m = go (at_end us)
     where
-      go : (v : Bool) → ReadFits (cond v (rule r) (refused (refusal trailing_token (first_place us))))
+      go : (v : Bool) → ReadFits (cond v (rule r) (refused (refusal TrailingToken (first_place us))))
       go true =
           let t = m.taken in
           let w = text_within s in
@@ -74,16 +75,16 @@ module _ (s : List ℕ) (short : length s ≤ 2048) (low : all_ascii s ≡ true)
   unfolding parse_of
   parse_fits = let ts = tokens_from s 0 in let n = 3 * length ts + 3 in ended_fits (or_in n s 0 ts) (or_made s n 0 ts)
 
-  scanned_fits : (x : Scanned) → ReadFits (scanned_of x s)
-  scanned_fits Clean = parse_fits
-  scanned_fits (Refused f) = tt
+  scanned_fits : (x : Result ⊤ Refusal) → ReadFits (scanned_of x s)
+  scanned_fits (Ok u) = parse_fits
+  scanned_fits (Err f) = tt
 
 fits : (s : List ℕ) → ReadFits (read_of s)
 unfolding read_of
 fits s = go (ltb 2048 (length s)) (ltb (run_end ascii s 0) (length s)) refl refl
   where
     go : (x y : Bool) → ltb 2048 (length s) ≡ x → ltb (run_end ascii s 0) (length s) ≡ y →
-        ReadFits (cond x (refused (refusal long_text 0)) (cond y (refused (refusal foreign_byte (run_end ascii s 0))) (scanned_of (scan_of (tokens_from s 0)) s)))
+        ReadFits (cond x (refused (refusal LongText 0)) (cond y (refused (refusal ForeignByte (run_end ascii s 0))) (scanned_of (scan_of (tokens_from s 0)) s)))
     go true y p q = tt
     go false true p q = tt
     go false false p q = scanned_fits s (ltb-false 2048 (length s) p) (text_ascii s (ltb-false (run_end ascii s 0) (length s) q)) (scan_of (tokens_from s 0))

@@ -6,7 +6,8 @@ use Prim.Native.Nat.{ℕ, zero, suc, ◌+◌, ◌-◌, ◌*◌, ◌≤◌, ◌<�
 use native.Mathlib.Omega.{arith}
 use lib.ListN.{length}
 use Rattle.refusals.specs.declared.Refusal.{Refusal}
-use Rattle.refusals.specs.Refusals.{refusal, bracket_expected}
+use Rattle.refusals.specs.Refusals.{refusal}
+use Rattle.refusals.specs.declared.Cause.TheVariants.{BracketExpected}
 use Rattle.tokens.specs.declared.Token.{Token}
 use Rattle.tokens.specs.Token.{tokens_from}
 use Rattle.rules.specs.Rule.{Join, all, any, Rule, node, Rules, nil, more}
@@ -274,7 +275,7 @@ module _ (s : List ℕ) (d : ℕ) where
     module _ (r : Rule) (us : List Token) where
       list_step : list_rest s d j rs (got r us)
           ≡ on_rest (after comma us) (λ vs. list_rest s d j (more rs r) (or_of s (d + 1) vs))
-          (on_rest (after close_bracket us) (λ vs. got (node j rs r) vs) (bad (refusal bracket_expected (first_place us))))
+          (on_rest (after close_bracket us) (λ vs. got (node j rs r) vs) (bad (refusal BracketExpected (first_place us))))
       unfolding or_in
       list_step =
           let f = 3 * length us in
@@ -287,7 +288,7 @@ module _ (s : List ℕ) (d : ℕ) where
       pub list_end : {vs : List Token} → after comma us ≡ missing → after close_bracket us ≡ rest vs → list_rest s d j rs (got r us) ≡ got (node j rs r) vs
       list_end e q = list_step ∙ rw (e, q)
 
-      pub list_open : after comma us ≡ missing → after close_bracket us ≡ missing → list_rest s d j rs (got r us) ≡ bad (refusal bracket_expected (first_place us))
+      pub list_open : after comma us ≡ missing → after close_bracket us ≡ missing → list_rest s d j rs (got r us) ≡ bad (refusal BracketExpected (first_place us))
       list_open e q = list_step ∙ rw (e, q)
 
 -- ---- a text's expression

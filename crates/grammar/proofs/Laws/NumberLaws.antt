@@ -5,12 +5,12 @@ use Prim.Native.Nat.{ℕ, zero, suc, ◌+◌, ◌-◌, ◌*◌, ◌≤◌, ◌<�
 use native.Mathlib.Omega.{arith}
 use lib.Dec.{ltb}
 use lib.ListN.{length}
+use Rattle.std.specs.Prelude.{Result, Ok, Err, ⊤}
+use Rattle.refusals.specs.Refusals.{number}
 use Rattle.slices.specs.Text.{run_end}
 use Rattle.refusals.specs.declared.Refusal.{Refusal}
 use Rattle.tokens.specs.declared.Token.{Token}
 use Rattle.tokens.specs.declared.Token.TheVariants.{End, Open, Close, Comma, And, Or, Word, Fault}
-use Rattle.tokens.specs.declared.Scanned.{Scanned}
-use Rattle.tokens.specs.declared.Scanned.TheVariants.{Clean, Refused}
 use Rattle.tokens.specs.Token.{ascii, token_at, next_of, onward, tokens_by, tokens_from, scan_of}
 use Rattle.tokens.specs.Inner.Bounds.{Lexed}
 use Rattle.tokens.proofs.Laws.TokenLaws.{by_cond, lexed}
@@ -107,9 +107,9 @@ module _ (s : List ℕ) where
 
 -- ---- the tokens of a text
 -- they are clean, or refused with such a number
-abbrev CleanOr : Scanned → Type 0
-CleanOr Clean = Unit {0}
-CleanOr (Refused f) = Numbered f
+abbrev CleanOr : Result ⊤ Refusal → Type 0
+CleanOr (Ok u) = Unit {0}
+CleanOr (Err f) = Numbered f
 
 -- a fault has a number among 4 to 6
 onward_number : (len at : ℕ) (t : Token) (later : ℕ → List Token) → Lexed len at t → ((n : ℕ) → CleanOr (scan_of (later n))) →
@@ -121,7 +121,7 @@ onward_number len at (Close p n) later l h = h n
 onward_number len at (Comma p n) later l h = h n
 onward_number len at (And p n) later l h = h n
 onward_number len at (Or p n) later l h = h n
-onward_number len at (Word p a b q n) later l h = h n
+onward_number len at (Word w) later l h = h w.next
 onward_number len at (Fault f) later l h = omega arith
 
 tokens_number : (f : ℕ) (s : List ℕ) (at : ℕ) → CleanOr (scan_of (tokens_by f s at))
@@ -139,10 +139,10 @@ ended_number : (g : ParseResult) → GotOr g → RuleOr (ended g)
 ended_number (got r us) n = by_cond RuleOr (at_end us) (λ _. tt) (λ _. omega arith)
 ended_number (bad f) n = n
 
-scanned_number : (x : Scanned) (s : List ℕ) → CleanOr x → RuleOr (scanned_of x s)
+scanned_number : (x : Result ⊤ Refusal) (s : List ℕ) → CleanOr x → RuleOr (scanned_of x s)
 unfolding parse_of
-scanned_number Clean s n = let ts = tokens_from s 0 in let f = 3 * length ts + 3 in ended_number (or_in f s 0 ts) (or_number s f 0 ts (omega arith))
-scanned_number (Refused f) s n = n
+scanned_number (Ok u) s n = let ts = tokens_from s 0 in let f = 3 * length ts + 3 in ended_number (or_in f s 0 ts) (or_number s f 0 ts (omega arith))
+scanned_number (Err f) s n = n
 
 numbered : (s : List ℕ) → RuleOr (read_of s)
 unfolding read_of tokens_from
@@ -152,5 +152,5 @@ numbered s =
     (λ _. scanned_number (scan_of (tokens_from s 0)) s (tokens_number (length s - 0 + 1) s 0)))
 
 -- so every refusal of a text has one
-pub read_number : (s : List ℕ) (f : Refusal) → read_of s ≡ refused f → (2 ≤ f.number) × (f.number ≤ 15)
+pub read_number : (s : List ℕ) (f : Refusal) → read_of s ≡ refused f → (2 ≤ number f.cause) × (number f.cause ≤ 15)
 read_number s f e = rw e at (numbered s)

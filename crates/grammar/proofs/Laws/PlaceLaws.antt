@@ -7,25 +7,23 @@ use native.Mathlib.Omega.{arith}
 use borrow.Author.Tests.{ltb-true, ltb-false}
 use lib.Dec.{ltb, eqb}
 use lib.ListN.{length}
+use Rattle.std.specs.Prelude.{Result, Ok, Err, Option, Some, None, ⊤}
 use Rattle.slices.specs.Text.{part, run_end}
 use Rattle.refusals.specs.declared.Refusal.{Refusal}
 use Rattle.tokens.specs.declared.Token.{Token}
 use Rattle.tokens.specs.declared.Token.TheVariants.{End, Open, Close, Comma, And, Or, Word, Fault}
-use Rattle.tokens.specs.declared.Scanned.{Scanned}
-use Rattle.tokens.specs.declared.Scanned.TheVariants.{Clean, Refused}
 use Rattle.tokens.specs.Token.{ascii, place_of, token_at, next_of, onward, tokens_by, tokens_from, scan_of}
 use Rattle.tokens.specs.Inner.Bounds.{Lexed}
 use Rattle.tokens.proofs.Laws.TokenLaws.{by_cond, lexed}
-use Rattle.decimal.specs.declared.Parsed.{Parsed}
-use Rattle.decimal.specs.declared.Parsed.TheVariants.{Value, Invalid}
 use Rattle.decimal.specs.Count.{count_of}
 use Rattle.durations.specs.Duration.{duration_of}
 use Rattle.rules.specs.Rule.{Join, all, any, Rule, Rules, nil, more}
 use Rattle.grammar.specs.declared.Function.{Function}
-use Rattle.grammar.specs.declared.Function.TheVariants.{OlderThan, Readable, Any, All, AtLeast, Unknown}
+use Rattle.grammar.specs.declared.Function.TheVariants.{OlderThan, Readable, Any, All, AtLeast}
 use Rattle.grammar.specs.Grammar as grammar
 use Rattle.grammar.specs.Grammar.{token_kind, Rest, rest, missing, after, first_place, PrimaryStart, a_leaf, a_group, a_list, expecting, expected_word, require_word, valued, older_than_start, readable_start, at_least_start, function_of, call_start, opened, unquoted_start, word_start, primary_start, ParseResult, got, bad, onto, on_rest, close_after, by_start, or_in, or_more, and_in, and_more, primary_in, list_more}
-use Rattle.refusals.specs.Refusals.{bracket_expected, missing_argument}
+use Rattle.refusals.specs.declared.Cause.{Cause}
+use Rattle.refusals.specs.declared.Cause.TheVariants.{BracketExpected, MissingArgument}
 use Rattle.classes.specs.Class.{open_bracket, close_bracket, comma, ampersand, bar}
 use Rattle.grammar.specs.Reading.{Read, rule, refused, at_end, ended, parse_of, scanned_of, read_of}
 
@@ -64,14 +62,14 @@ module _ (m : ℕ) where
   first_placed (t ∷ ts) h = h.0
 
   -- ---- how a primary begins
-  expecting_placed : (number : ℕ) (r : Rest) (p : ℕ) (then : List Token → PrimaryStart) → RestPlaced m r → p ≤ m →
-      ((ts : List Token) → Placed m ts → HeadPlaced m (then ts)) → HeadPlaced m (expecting number r p then)
-  expecting_placed number (rest ts) p then h l f = f ts h
-  expecting_placed number missing p then h l f = l
+  expecting_placed : (c : Cause) (r : Rest) (p : ℕ) (then : List Token → PrimaryStart) → RestPlaced m r → p ≤ m →
+      ((ts : List Token) → Placed m ts → HeadPlaced m (then ts)) → HeadPlaced m (expecting c r p then)
+  expecting_placed c (rest ts) p then h l f = f ts h
+  expecting_placed c missing p then h l f = l
 
-  valued_placed : (x : Parsed) (number p : ℕ) (then : ℕ → PrimaryStart) → p ≤ m → ((n : ℕ) → HeadPlaced m (then n)) → HeadPlaced m (valued x number p then)
-  valued_placed (Value n) number p then l f = f n
-  valued_placed Invalid number p then l f = l
+  valued_placed : (x : Option ℕ) (c : Cause) (p : ℕ) (then : ℕ → PrimaryStart) → p ≤ m → ((n : ℕ) → HeadPlaced m (then n)) → HeadPlaced m (valued x c p then)
+  valued_placed (Some n) c p then l f = f n
+  valued_placed None c p then l f = l
 
   module _ (s : List ℕ) where
     expected_placed : (ts : List Token) (then : ℕ → List ℕ → List Token → PrimaryStart) → Placed m ts →
@@ -84,14 +82,14 @@ module _ (m : ℕ) where
     expected_placed (Comma p n ∷ ts) then h f = h.0
     expected_placed (And p n ∷ ts) then h f = h.0
     expected_placed (Or p n ∷ ts) then h f = h.0
-    expected_placed (Word p a b q n ∷ ts) then h f = f p (part s a b) ts h.0 h.1
+    expected_placed (Word w ∷ ts) then h f = f w.place (part s w.start w.end) ts h.0 h.1
     expected_placed (Fault x ∷ ts) then h f = h.0
 
     older_placed : (ts : List Token) → Placed m ts → HeadPlaced m (older_than_start s ts)
     unfolding older_than_start
     older_placed ts h =
         expected_placed ts _ h (λ p w us l k.
-        expecting_placed bracket_expected (after close_bracket us) (first_place us) _ (after_placed close_bracket us k) (first_placed us k) (λ vs e.
+        expecting_placed BracketExpected (after close_bracket us) (first_place us) _ (after_placed close_bracket us k) (first_placed us k) (λ vs e.
         valued_placed (duration_of w) _ p _ l (λ n. e)))
 
     readable_placed : (ts : List Token) → Placed m ts → HeadPlaced m (readable_start s ts)
@@ -99,22 +97,22 @@ module _ (m : ℕ) where
     readable_placed ts h =
         expected_placed ts _ h (λ p w us l k.
         valued_placed (count_of w) _ p _ l (λ n.
-        expecting_placed bracket_expected (after close_bracket us) (first_place us) _ (after_placed close_bracket us k) (first_placed us k) (λ vs e. e)))
+        expecting_placed BracketExpected (after close_bracket us) (first_place us) _ (after_placed close_bracket us k) (first_placed us k) (λ vs e. e)))
 
     at_least_placed : (place : ℕ) (ts : List Token) → place ≤ m → Placed m ts → HeadPlaced m (at_least_start s place ts)
     unfolding at_least_start
     at_least_placed place ts at h =
         expected_placed ts _ h (λ p w us l k.
         valued_placed (count_of w) _ p _ l (λ n.
-        expecting_placed missing_argument (after comma us) (first_place us) _ (after_placed comma us k) (first_placed us k) (λ vs e. (at, e))))
+        expecting_placed MissingArgument (after comma us) (first_place us) _ (after_placed comma us k) (first_placed us k) (λ vs e. (at, e))))
 
-    call_placed : (place : ℕ) (x : Function) (ts : List Token) → place ≤ m → Placed m ts → HeadPlaced m (call_start s place x ts)
-    call_placed place OlderThan ts at h = older_placed ts h
-    call_placed place Readable ts at h = readable_placed ts h
-    call_placed place Any ts at h = (at, h)
-    call_placed place All ts at h = (at, h)
-    call_placed place AtLeast ts at h = at_least_placed place ts at h
-    call_placed place Unknown ts at h = at
+    call_placed : (place : ℕ) (x : Option Function) (ts : List Token) → place ≤ m → Placed m ts → HeadPlaced m (call_start s place x ts)
+    call_placed place (Some OlderThan) ts at h = older_placed ts h
+    call_placed place (Some Readable) ts at h = readable_placed ts h
+    call_placed place (Some Any) ts at h = (at, h)
+    call_placed place (Some All) ts at h = (at, h)
+    call_placed place (Some AtLeast) ts at h = at_least_placed place ts at h
+    call_placed place None ts at h = at
 
     opened_placed : (d p : ℕ) (x : PrimaryStart) → p ≤ m → HeadPlaced m x → HeadPlaced m (opened d p x)
     opened_placed d p x l h = by_cond (HeadPlaced m) (ltb d 64) (λ e. h) (λ e. l)
@@ -137,7 +135,7 @@ module _ (m : ℕ) where
     head_placed d (Comma p n ∷ ts) h = h.0
     head_placed d (And p n ∷ ts) h = h.0
     head_placed d (Or p n ∷ ts) h = h.0
-    head_placed d (Word p a b q n ∷ ts) h = word_placed d p (part s a b) q ts h.0 h.1
+    head_placed d (Word w ∷ ts) h = word_placed d w.place (part s w.start w.end) w.quoted ts h.0 h.1
     head_placed d (Fault f ∷ ts) h = h.0
 
   -- ---- an expression
@@ -214,7 +212,7 @@ onward_placed len at (Close p n) later l h = (omega arith, h n)
 onward_placed len at (Comma p n) later l h = (omega arith, h n)
 onward_placed len at (And p n) later l h = (omega arith, h n)
 onward_placed len at (Or p n) later l h = (omega arith, h n)
-onward_placed len at (Word p a b q n) later l h = (omega arith, h n)
+onward_placed len at (Word w) later l h = (omega arith, h w.next)
 onward_placed len at (Fault f) later l h = (omega arith, tt)
 
 tokens_placed : (f : ℕ) (s : List ℕ) (at : ℕ) → Placed (length s) (tokens_by f s at)
@@ -222,9 +220,9 @@ unfolding tokens_by
 tokens_placed zero s at = tt
 tokens_placed (suc f) s at = onward_placed (length s) at (token_at s at) (tokens_by f s) (lexed s at) (tokens_placed f s)
 
-abbrev ScanPlaced : ℕ → Scanned → Type 0
-ScanPlaced m Clean = Unit {0}
-ScanPlaced m (Refused f) = f.place ≤ m
+abbrev ScanPlaced : ℕ → Result ⊤ Refusal → Type 0
+ScanPlaced m (Ok u) = Unit {0}
+ScanPlaced m (Err f) = f.place ≤ m
 
 scan_placed : (m : ℕ) (ts : List Token) → Placed m ts → ScanPlaced m (scan_of ts)
 unfolding scan_of place_of
@@ -235,7 +233,7 @@ scan_placed m (Close p n ∷ ts) h = scan_placed m ts h.1
 scan_placed m (Comma p n ∷ ts) h = scan_placed m ts h.1
 scan_placed m (And p n ∷ ts) h = scan_placed m ts h.1
 scan_placed m (Or p n ∷ ts) h = scan_placed m ts h.1
-scan_placed m (Word p a b q n ∷ ts) h = scan_placed m ts h.1
+scan_placed m (Word w ∷ ts) h = scan_placed m ts h.1
 scan_placed m (Fault f ∷ ts) h = h.0
 
 -- ---- a text
@@ -252,10 +250,10 @@ module _ (s : List ℕ) where
   ended_placed (got r ts) h = by_cond (ReadPlaced (length s)) (at_end ts) (λ e. tt) (λ e. first_placed (length s) ts h)
   ended_placed (bad f) h = h
 
-  scanned_placed : (x : Scanned) → ScanPlaced (length s) x → ReadPlaced (length s) (scanned_of x s)
+  scanned_placed : (x : Result ⊤ Refusal) → ScanPlaced (length s) x → ReadPlaced (length s) (scanned_of x s)
   unfolding parse_of
-  scanned_placed Clean h = let ts = tokens_from s 0 in let f = 3 * length ts + 3 in ended_placed (or_in f s 0 ts) (or_placed (length s) s f 0 ts text_placed)
-  scanned_placed (Refused f) h = h
+  scanned_placed (Ok u) h = let ts = tokens_from s 0 in let f = 3 * length ts + 3 in ended_placed (or_in f s 0 ts) (or_placed (length s) s f 0 ts text_placed)
+  scanned_placed (Err f) h = h
 
   -- of at most 2,048 bytes, since a longer one is refused at 0
   placed : (m : ℕ) → (length s ≤ 2048 → length s ≤ m) → ReadPlaced m (read_of s)

@@ -9,21 +9,22 @@ use native.Mathlib.Omega.{arith}
 use borrow.Author.Tests.{eqb-true}
 use lib.Dec.{eqb, ltb}
 use lib.ListN.{length, drop, length-append, length-take, length-drop}
+use Rattle.std.specs.Prelude.{Option, Some, None}
 use Rattle.slices.specs.Text.{bytes, part, all_ascii}
 use Rattle.ascii.specs.Letters.{equal_ignoring_case}
 use Rattle.refusals.specs.declared.Refusal.{Refusal}
-use Rattle.refusals.specs.Refusals.{refusal, bracket_expected, missing_argument, too_deep}
+use Rattle.refusals.specs.Refusals.{number, refusal}
+use Rattle.refusals.specs.declared.Cause.{Cause}
+use Rattle.refusals.specs.declared.Cause.TheVariants.{BracketExpected, MissingArgument, TooDeep}
 use Rattle.tokens.specs.declared.Token.{Token}
 use Rattle.tokens.specs.declared.Token.TheVariants.{End, Open, Close, Comma, And, Or, Word, Fault}
-use Rattle.decimal.specs.declared.Parsed.{Parsed}
-use Rattle.decimal.specs.declared.Parsed.TheVariants.{Value, Invalid}
 use Rattle.decimal.specs.Count.{count_of}
 use Rattle.durations.specs.Duration.{duration_of}
 use Rattle.rules.specs.Rule.{named, readable, Join, at_least, all, any, Rule, leaf, node, Rules, nil, more, size, sizes}
 use Rattle.image.specs.Encode.{leaf_arg, leaf_name, join_kind, join_arg, names, names_all, Small, SmallAll}
 use Rattle.grammar.specs.declared.Function.{Function}
-use Rattle.grammar.specs.declared.Function.TheVariants.{OlderThan, Readable, Any, All, AtLeast, Unknown}
-use Rattle.grammar.specs.Grammar.{token_kind, Rest, rest, missing, after, first_place, PrimaryStart, a_leaf, a_group, a_list, refused, refuse, expecting, expected_word, require_word, valued, older_than_start, readable_start, at_least_start, function_of, call_start, unquoted_leaf, opened, unquoted_start, primary_start, chain, left_rules, ParseResult, got, bad, onto, on_rest, close_after, by_start, or_in, or_more, and_in, and_more, primary_in, list_more}
+use Rattle.grammar.specs.declared.Function.TheVariants.{OlderThan, Readable, Any, All, AtLeast}
+use Rattle.grammar.specs.Grammar.{token_kind, Rest, rest, missing, after, first_place, PrimaryStart, a_leaf, a_group, a_list, refused, refuse, expecting, expected_word, require_word, valued, older_than_start, readable_start, at_least_start, function_of, call_start, unquoted_leaf, opened, unquoted_start, word_start, primary_start, chain, left_rules, ParseResult, got, bad, onto, on_rest, close_after, by_start, or_in, or_more, and_in, and_more, primary_in, list_more}
 use Rattle.classes.specs.Class.{open_bracket, close_bracket, comma, ampersand, bar}
 use Rattle.slices.proofs.Laws.AsciiLaws.{append_ascii}
 use Rattle.grammar.proofs.Laws.AsciiLaws.{part_ascii}
@@ -41,7 +42,7 @@ word_length (Close p n) = 0
 word_length (Comma p n) = 0
 word_length (And p n) = 0
 word_length (Or p n) = 0
-word_length (Word p a b q n) = b - a
+word_length (Word w) = w.end - w.start
 word_length (Fault f) = 0
 
 abbrev pub bytes_for : List Token → ℕ
@@ -91,7 +92,7 @@ by_after P k ts l m f = go (after k ts) refl
 -- ---- how a primary begins
 -- the refusals of a text: the table's 2 to 15
 abbrev pub Numbered : Refusal → Type 0
-Numbered f = (2 ≤ f.number) × (f.number ≤ 15)
+Numbered f = (2 ≤ number f.cause) × (number f.cause ≤ 15)
 
 abbrev pub Begun : List ℕ → List Token → PrimaryStart → Type 0
 Begun s ts (a_leaf l us) = TakenNamed s ts us 1 (leaf_name l) (leaf_arg l 0 < 2 ^ 64)
@@ -106,13 +107,13 @@ part_short s a b = omega (arith, length-take (b - a) (drop a s), length-drop a s
 
 module _ (s : List ℕ) (ts : List Token) where
   closed_begun : (us : List Token) (p : ℕ) (then : List Token → PrimaryStart) →
-      ((vs : List Token) → Taken us vs 1 0 → Begun s ts (then vs)) → Begun s ts (expecting bracket_expected (after close_bracket us) p then)
-  closed_begun us p then f = by_after (λ r. Begun s ts (expecting bracket_expected r p then)) close_bracket us (omega arith) (omega arith) f
+      ((vs : List Token) → Taken us vs 1 0 → Begun s ts (then vs)) → Begun s ts (expecting BracketExpected (after close_bracket us) p then)
+  closed_begun us p then f = by_after (λ r. Begun s ts (expecting BracketExpected r p then)) close_bracket us (omega arith) (omega arith) f
 
-  valued_begun : (x : Parsed) (number p : ℕ) (then : ℕ → PrimaryStart) → Numbered (refusal number p) →
-      ((n : ℕ) → x ≡ Value n → Begun s ts (then n)) → Begun s ts (valued x number p then)
-  valued_begun (Value n) number p then l f = f n refl
-  valued_begun Invalid number p then l f = l
+  valued_begun : (x : Option ℕ) (c : Cause) (p : ℕ) (then : ℕ → PrimaryStart) → Numbered (refusal c p) →
+      ((n : ℕ) → x ≡ Some n → Begun s ts (then n)) → Begun s ts (valued x c p then)
+  valued_begun (Some n) c p then l f = f n refl
+  valued_begun None c p then l f = l
 
   expected_begun : (us : List Token) (then : ℕ → List ℕ → List Token → PrimaryStart) →
       ((p : ℕ) (w : List ℕ) (vs : List Token) → Taken us vs 1 0 → Begun s ts (then p w vs)) → Begun s ts (require_word (expected_word s us) then)
@@ -124,13 +125,13 @@ module _ (s : List ℕ) (ts : List Token) where
   expected_begun (Comma p n ∷ us) then f = omega arith
   expected_begun (And p n ∷ us) then f = omega arith
   expected_begun (Or p n ∷ us) then f = omega arith
-  expected_begun (Word p a b q n ∷ us) then f = f p (part s a b) us (omega arith)
+  expected_begun (Word w ∷ us) then f = f w.place (part s w.start w.end) us (omega arith)
   expected_begun (Fault g ∷ us) then f = omega arith
 
   opened_begun : (d p : ℕ) (h : PrimaryStart) → Begun s ts h → Begun s ts (opened d p h)
   opened_begun d p h b = go (ltb d 64)
     where
-      go : (v : Bool) → Begun s ts (cond v h (refuse too_deep p))
+      go : (v : Bool) → Begun s ts (cond v h (refuse TooDeep p))
       go true = b
       go false = omega arith
 
@@ -157,16 +158,16 @@ module _ (s : List ℕ) (ts : List Token) where
     unfolding at_least_start
     at_least_begun place =
         expected_begun us _ (λ p w vs i. valued_begun (count_of w) _ _ _ (omega arith) (λ n e.
-        by_after (λ r. Begun s ts (expecting missing_argument r (first_place vs) (a_list (at_least n) place))) comma vs (omega arith)
+        by_after (λ r. Begun s ts (expecting MissingArgument r (first_place vs) (a_list (at_least n) place))) comma vs (omega arith)
         (omega arith) (λ xs j. (omega arith, count_small w e))))
 
-    call_begun : (place : ℕ) (f : Function) → Begun s ts (call_start s place f us)
-    call_begun place OlderThan = older_begun
-    call_begun place Readable = readable_begun
-    call_begun place Any = (t, omega arith)
-    call_begun place All = (t, omega arith)
-    call_begun place AtLeast = at_least_begun place
-    call_begun place Unknown = omega arith
+    call_begun : (place : ℕ) (f : Option Function) → Begun s ts (call_start s place f us)
+    call_begun place (Some OlderThan) = older_begun
+    call_begun place (Some Readable) = readable_begun
+    call_begun place (Some Any) = (t, omega arith)
+    call_begun place (Some All) = (t, omega arith)
+    call_begun place (Some AtLeast) = at_least_begun place
+    call_begun place None = omega arith
 
   -- a name
   name_made : (us : List Token) (a b : ℕ) → Taken ts us 1 (b - a) → Begun s ts (a_leaf (named (part s a b)) us)
@@ -190,12 +191,17 @@ head_begun s d (Close p n ∷ us) = omega arith
 head_begun s d (Comma p n ∷ us) = omega arith
 head_begun s d (And p n ∷ us) = omega arith
 head_begun s d (Or p n ∷ us) = omega arith
-head_begun s d (Word p a b true n ∷ us) = name_made s (Word p a b true n ∷ us) us a b (omega arith)
-head_begun s d (Word p a b false n ∷ us) =
-    let ts = Word p a b false n ∷ us in
-    by_after (λ r. Begun s ts (unquoted_start s d p (part s a b) us r)) open_bracket us (omega arith)
-    (unquoted_made s ts us a b (omega arith))
-    (λ vs t. opened_begun s ts d _ _ (call_begun s ts vs (omega arith) p (function_of (part s a b))))
+head_begun s d (Word w ∷ us) = go w.quoted
+  where
+    ts : List Token
+    ts = Word w ∷ us
+
+    go : (quoted : Bool) → Begun s ts (word_start s d w.place (part s w.start w.end) quoted us)
+    go true = name_made s ts us w.start w.end (omega arith)
+    go false =
+        by_after (λ r. Begun s ts (unquoted_start s d w.place (part s w.start w.end) us r)) open_bracket us (omega arith)
+        (unquoted_made s ts us w.start w.end (omega arith))
+        (λ vs t. opened_begun s ts d _ _ (call_begun s ts vs (omega arith) w.place (function_of (part s w.start w.end))))
 head_begun s d (Fault f ∷ us) = omega arith
 
 -- ---- rules

@@ -1,8 +1,7 @@
 -- How the program's answer to how a primary begins is read, and the bounds of its numbers. Assumes nothing.
-use Rattle.std.specs.Prelude.{ℕ, ◌≤◌, ◌≡◌, List, length}
+use Rattle.std.specs.Prelude.{ℕ, ◌≤◌, ◌≡◌, List, length, Option, None, Some, Result, Ok, Err}
 use Rattle.slices.specs.Text.{part}
-use Rattle.tokens.specs.declared.Next.{Next}
-use Rattle.tokens.specs.declared.Next.TheVariants.{Off, To}
+use Rattle.refusals.specs.declared.Refusal.{Refusal}
 use Rattle.tokens.specs.declared.Token.{Token}
 use Rattle.tokens.specs.Token.{tokens_from}
 use Rattle.rules.specs.Rule.{Leaf, named, older_than, readable, Join, at_least, all, any}
@@ -12,7 +11,7 @@ use Rattle.grammar.specs.declared.Test.TheVariants.{OlderThan, Readable}
 use Rattle.grammar.specs.declared.Combinator.{Combinator}
 use Rattle.grammar.specs.declared.Combinator.TheVariants.{AtLeast, All, Any}
 use Rattle.grammar.specs.declared.PrimaryStart.{PrimaryStart}
-use Rattle.grammar.specs.declared.PrimaryStart.TheVariants.{Name, Leaf as Tested, Group, List as Listed, Refused}
+use Rattle.grammar.specs.declared.PrimaryStart.TheVariants.{Name, Leaf as Tested, Group, List as Listed}
 
 abbrev pub leaf_of : Test → Leaf
 leaf_of (OlderThan ms) = older_than ms
@@ -24,20 +23,20 @@ join_of All = all
 join_of Any = any
 
 -- the answer as the grammar has it: a position represents the tokens from there on
-abbrev pub start_of : List ℕ → PrimaryStart → grammar.PrimaryStart
-start_of s (Name a b n) = grammar.a_leaf (named (part s a b)) (tokens_from s n)
-start_of s (Tested t n) = grammar.a_leaf (leaf_of t) (tokens_from s n)
-start_of s (Group n) = grammar.a_group (tokens_from s n)
-start_of s (Listed c p n) = grammar.a_list (join_of c) p (tokens_from s n)
-start_of s (Refused f) = grammar.refused f
+abbrev pub start_of : List ℕ → Result PrimaryStart Refusal → grammar.PrimaryStart
+start_of s (Ok (Name a b n)) = grammar.a_leaf (named (part s a b)) (tokens_from s n)
+start_of s (Ok (Tested t n)) = grammar.a_leaf (leaf_of t) (tokens_from s n)
+start_of s (Ok (Group n)) = grammar.a_group (tokens_from s n)
+start_of s (Ok (Listed c p n)) = grammar.a_list (join_of c) p (tokens_from s n)
+start_of s (Err f) = grammar.refused f
 
 -- where the text continues
-abbrev pub start_next : PrimaryStart → Next
-start_next (Name a b n) = To n
-start_next (Tested t n) = To n
-start_next (Group n) = To n
-start_next (Listed c p n) = To n
-start_next (Refused f) = Off
+abbrev pub start_next : Result PrimaryStart Refusal → Option ℕ
+start_next (Ok (Name a b n)) = Some n
+start_next (Ok (Tested t n)) = Some n
+start_next (Ok (Group n)) = Some n
+start_next (Ok (Listed c p n)) = Some n
+start_next (Err f) = None
 
 -- how many tokens are left from a position on
 abbrev pub left : List ℕ → ℕ → ℕ
@@ -45,11 +44,11 @@ left s at = length (tokens_from s at)
 
 -- The answer says what the grammar has. The text continues at `lo` or later, with at most `most` tokens left; a name begins
 -- at `low` or later.
-pub record Begins (s : List ℕ) (low lo most : ℕ) (h : PrimaryStart) (g : grammar.PrimaryStart) : Type 0 where
+pub record Begins (s : List ℕ) (low lo most : ℕ) (h : Result PrimaryStart Refusal) (g : grammar.PrimaryStart) : Type 0 where
   pub says : start_of s h ≡ g
-  pub on : (n : ℕ) → start_next h ≡ To n → (lo ≤ n) × (n ≤ length s) × (left s n ≤ most)
-  pub name : (a b n : ℕ) → h ≡ Name a b n → (low ≤ a) × (a ≤ b) × (b ≤ n)
+  pub on : (n : ℕ) → start_next h ≡ Some n → (lo ≤ n) × (n ≤ length s) × (left s n ≤ most)
+  pub name : (a b n : ℕ) → h ≡ Ok (Name a b n) → (low ≤ a) × (a ≤ b) × (b ≤ n)
 
 -- in a call, whose arguments are read from a position on by one of the grammar's functions
-abbrev pub BeginsAt : List ℕ → ℕ → PrimaryStart → (List Token → grammar.PrimaryStart) → Type 0
+abbrev pub BeginsAt : List ℕ → ℕ → Result PrimaryStart Refusal → (List Token → grammar.PrimaryStart) → Type 0
 BeginsAt s at h start = Begins s at at (left s at) h (start (tokens_from s at))

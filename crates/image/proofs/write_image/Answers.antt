@@ -4,7 +4,7 @@ use mathlib.Core.List.{List, ◌++◌, append_assoc}
 use Prim.Native.Nat.{ℕ, ◌+◌, ◌*◌}
 use native.Mathlib.Omega.{arith}
 use lib.ListN.{length, length-append}
-use lib.Seq.{length-take-le}
+use Rattle.std.proofs.lemmas.List.{map-id}
 use Rattle.slices.specs.Text.{written}
 use Rattle.little_endian.specs.Bytes.{le_bytes, packed}
 use Rattle.image.specs.Encode.{image_of}
@@ -28,8 +28,8 @@ parts {n} {m} s ts xs ws lt lx lw e₁ f₂ f₃ f₄ f₅ =
 
 pub returns : goal.returns
 returns c =
-    let h = c.requires in (
-      refl,
-      parts _ _ _ _ (length-take-le _ _ h.0) (length-take-le _ _ h.1.0) (length-take-le _ _ h.1.1.0)
-          c.write_u16.ensures c.write_u16-2.ensures c.write_tags.ensures c.write_args.ensures c.write_names.ensures,
+    let ts = rw map-id at (c.write_numbers.ensures (λ x. x) (λ x y e. e)) in
+    let xs = rw map-id at (c.write_numbers-2.ensures (λ x. x) (λ x y e. e)) in (
+      omega (arith, c.append.ensures.ends),
+      parts _ _ _ _ refl c.requires.0 refl c.write.ensures c.write-2.ensures ts xs c.append.ensures.text,
     )

@@ -5,7 +5,7 @@ use Rattle.image.proofs.Laws.FitLaws.{Left}
 use Rattle.image_test.proofs.children_fit.Given as goal
 
 abbrev pub invariant-loop-at : goal.invariant-loop-at
-invariant-loop-at l = (l.from ≤ l.at) × (l.at ≤ l.end) × Left (cell_at l.image l.n) l.from l.end l.at
+invariant-loop-at l = (l.from ≤ l.at) × (l.at ≤ l.end) × Left (cell_at l.nodes.bytes.now l.nodes.count) l.from l.end l.at
 
 abbrev pub decreases-loop-at : goal.decreases-loop-at
 decreases-loop-at l = l.at

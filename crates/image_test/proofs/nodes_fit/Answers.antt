@@ -8,20 +8,20 @@ use Rattle.image_test.proofs.nodes_fit.Goals as goal
 
 pub loop-i-init : goal.loop-i-init
 unfolding build
-loop-i-init c = (omega arith, refl)
+loop-i-init c = refl
 
 pub node_fits-requires : goal.node_fits-requires
-node_fits-requires c = (record { long = c.requires.0; within = omega arith; ready = c.loop-i.invariant.1 }, omega arith)
+node_fits-requires c = (record { within = omega arith; ready = c.loop-i.invariant }, omega arith)
 
 pub returns-then-not-node_fits : goal.returns-then-not-node_fits
 returns-then-not-node_fits c = fits_stop _ _ _ (omega arith) (sym c.node_fits.ensures ∙ c.if-not-node_fits.true)
 
 pub loop-i-preserved : goal.loop-i-preserved
-loop-i-preserved c = (omega arith, rw add-one (sym c.node_fits.ensures ∙ c.if-not-node_fits.false))
+loop-i-preserved c = rw add-one (sym c.node_fits.ensures ∙ c.if-not-node_fits.false)
 
 pub returns : goal.returns
 returns c =
-    let a = c.args in
+    let a = c.args.nodes in
     let l = c.loop-i in
-    let q : l.i ≡ a.n = omega (arith, l.invariant.0, c.loop-i-test.false) in
-    fits_root (cell_at a.image.now a.n) a.n c.node_at-root.result.size (cell_size _ _ _ c.node_at-root.ensures) (omega arith) (rw q at l.invariant.1)
+    let q : l.i ≡ a.count = omega arith in
+    fits_root (cell_at a.bytes.now a.count) a.count c.node-root.result.size (cell_size _ _ _ c.node-root.ensures) (omega arith) (rw q at l.invariant)

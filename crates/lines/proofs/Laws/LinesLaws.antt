@@ -1,29 +1,35 @@
--- Laws of texts that are trimmed, bytes as they are shown, and the line of a place. Assumes nothing.
+-- Laws of bytes as they are shown, and the line of a place. Assumes nothing.
 use mathlib.Core.Path.{◌≡◌, refl, ap, ◌∙◌}
 use mathlib.Core.List.{List, [], ◌∷◌}
 use Prim.Native.Nat.{ℕ, zero, suc, ◌+◌, ◌-◌, ◌≤◌, ◌<◌}
 use native.Mathlib.Nat.{le_of_suc-le-suc, not-suc-le-zero}
-use native.Mathlib.Numerals.{add-one}
 use native.Mathlib.Omega.{arith}
-use lib.ListN.{length, take, drop, get_or, set}
-use lib.Seq.{length-take-le}
+use lib.ListN.{length, take, drop, get_or, replicate, length-drop, length-replicate}
+use lib.Seq.{length-take-le, drop-drop}
+use borrow.Rule.Slice.PartMut.{put_mid}
 use Rattle.ascii.specs.Letters.{within}
-use Rattle.slices.specs.Text.{part, other, WrittenAt}
+use Rattle.slices.specs.Text.{part, other, written, WrittenAt}
 use Rattle.slices.proofs.Laws.TextLaws.{end_within, part_length}
 use Rattle.slices.proofs.Laws.SearchLaws.{last_le}
-use Rattle.slices.proofs.Laws.WrittenLaws.{written_sets}
-use Rattle.lines.specs.Lines.{text_end, trimmed, shown, shown_all, line_start, line_stop}
+use Rattle.slices.proofs.Laws.WrittenLaws.{written_sets, written_at_length, written_at_after}
+use Rattle.lines.specs.Lines.{text_end, shown, shown_all, line_start, line_stop}
 
--- a byte stored at a position is written there, and so are two in a row
-pub written_byte : (s : List ℕ) (at b : ℕ) → at + 1 ≤ length s → WrittenAt s (set s at b) at (at + 1) (b ∷ [])
-written_byte s at b h = record { ends = refl; text = written_sets s at (b ∷ []) h }
+-- what is written over a part of a slice
+pub written_over : (s ys : List ℕ) (at end : ℕ) → at + length ys ≡ end → end ≤ length s → WrittenAt s (put_mid at (end - at) s ys) at end ys
+unfolding written
+written_over s ys at end e h =
+    let k : end - at ≡ length ys = omega arith in
+    record { ends = e; text = rw (k, drop-drop) }
 
-pub written_bytes : (s : List ℕ) (at a b : ℕ) → at + 2 ≤ length s → WrittenAt s (set (set s at a) (at + 1) b) at (at + 2) (a ∷ b ∷ [])
-written_bytes s at a b h = record { ends = refl; text = rw add-one (written_sets s at (a ∷ b ∷ []) h) }
-
--- a text that is trimmed ends where its text ends
-pub trimmed_length : (s : List ℕ) → (length (trimmed s) ≡ text_end s) × (text_end s ≤ length s)
-trimmed_length s = let h = last_le (within 33 255) s (length s) in (length-take-le (text_end s) s h, h)
+-- blanks over a part
+pub blanks_over : (s ys : List ℕ) (at n : ℕ) → at + n ≤ length s → ys ≡ replicate (length (take (at + n - at) (drop at s))) 32 →
+    WrittenAt s (put_mid at (at + n - at) s ys) at (at + n) (replicate n 32)
+blanks_over s ys at n room e =
+    let long : length (take (at + n - at) (drop at s)) ≡ n =
+    let m : at + n - at ≡ n = omega arith in
+    rw m (length-take-le n (drop at s) (rw length-drop (omega arith))) in
+    let blanks : ys ≡ replicate n 32 = e ∙ ap (λ m. replicate m 32) long in
+    rw (← blanks) (written_over s ys at (at + n) (omega (arith, ap length blanks, length-replicate {A = ℕ} n 32)) room)
 
 -- bytes are shown one by one
 pub shown_length : (s : List ℕ) → length (shown_all s) ≡ length s

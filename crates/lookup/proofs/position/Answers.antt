@@ -1,47 +1,25 @@
--- `lookup::position` meets its contract: none of the first k entries has the name. Assumes nothing.
-use mathlib.Core.Path.{◌≡◌, refl, sym, ◌∙◌}
+-- `lookup::position` meets its contract: none of the entries that were looked at has the name. Assumes nothing.
+use mathlib.Core.Path.{refl, ap, ◌∙◌}
 use native.Mathlib.Omega.{arith}
+use Rattle.std.specs.Iterator.Adapters.{take_source, take_count}
 use Rattle.store_table.specs.Names.{has}
 use Rattle.store_table.specs.Stores.{all_names}
-use Rattle.store_table.proofs.Laws.NamesLaws.{has_next}
-use Rattle.store_table.proofs.Laws.IndexLaws.{finds_none, finds_at}
-use Rattle.store_table.proofs.Laws.WalkLaws.{standing_start, standing_within, standing_next, standing_here}
+use Rattle.store_table.proofs.Laws.IndexLaws.{has_named}
 use Rattle.lookup.proofs.position.Goals as goal
 
-pub loop-k-init : goal.loop-k-init
+pub loop-place-init : goal.loop-place-init
 unfolding has all_names
-loop-k-init c =
-    (rw c.names_start-at.ensures (standing_start _ _ c.requires.0 c.count_of-count.ensures.0), omega arith, refl)
+loop-place-init c =
+    let source = ap take_source c.into_iter-place-iterator.ensures.into_iter_gives ∙ c.take-place-items.ensures.source in
+    let count = ap take_count c.into_iter-place-iterator.ensures.into_iter_gives ∙ c.take-place-items.ensures.count in
+    rw (source, count, c.entries.ensures.0, c.entries.ensures.1) (refl, omega arith, refl)
 
-pub length_at-len-requires : goal.length_at-len-requires
-length_at-len-requires c = let l = c.loop-k in (l.invariant.0.in_bounds, (l.invariant.0.counted, omega arith))
-
-pub overflow_add-at : goal.overflow_add-at
-overflow_add-at c = omega (arith, standing_within c.loop-k.invariant.0 (omega arith) c.length_at-len.ensures.0)
-
-pub slice_bounds-same_name-end : goal.slice_bounds-same_name-end
-slice_bounds-same_name-end c = omega (arith, standing_within c.loop-k.invariant.0 (omega arith) c.length_at-len.ensures.0)
-
-pub returns-then-same_name : goal.returns-then-same_name
-returns-then-same_name c =
-    let e = standing_here c.loop-k.invariant.0 (omega arith) c.length_at-len.ensures.0 in
-    finds_at (omega arith) e (sym c.same_name.ensures ∙ c.if-same_name.true)
-
-pub overflow_add-at-in-loop-k : goal.overflow_add-at-in-loop-k
-overflow_add-at-in-loop-k c =
-    omega (arith, standing_within c.loop-k.invariant.0 (omega arith) c.length_at-len.ensures.0)
-
-pub loop-k-preserved : goal.loop-k-preserved
-loop-k-preserved c =
-    let l = c.loop-k in
-    let e = standing_here l.invariant.0 (omega arith) c.length_at-len.ensures.0 in (
-      standing_next l.invariant.0 (omega arith) c.length_at-len.ensures.0,
-      omega arith,
-      has_next _ l.k e _ ∙ rw (← c.same_name.ensures, c.if-same_name.false, l.invariant.2),
+pub loop-place-preserved : goal.loop-place-preserved
+loop-place-preserved c =
+    let i = c.loop-place.invariant in
+    let s = c.in-Some.ensures.steps in
+    let n = s.0.1 in (
+      s.0.0 ∙ i.0,
+      omega (arith, n.moved),
+      rw (n.moved, ← i.0) (has_named n.at _ ∙ rw (← c.same_name.ensures, c.if-same_name.false, i.0) i.2),
     )
-
-pub returns : goal.returns
-returns c =
-    let l = c.loop-k in
-    let e : l.k ≡ c.args.first = omega arith in
-    finds_none (rw e at l.invariant.2)

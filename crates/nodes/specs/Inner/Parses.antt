@@ -1,102 +1,91 @@
--- What the parser's functions ask and promise: where in the text they are, and what the three lent arrays hold.
+-- What the parser's functions ask and promise: where in the text they are, and what nodes they append.
 -- Assumes nothing.
-use Rattle.std.specs.Prelude.{ℕ, ◌+◌, ◌-◌, ◌*◌, ◌≤◌, ◌<◌, ◌≡◌, Bool, true, false, List, ◌++◌, length, take, set}
-use Rattle.classes.specs.Inner.ClassTable.{IsClassTable}
+use Rattle.std.specs.Prelude.{ℕ, ◌+◌, ◌-◌, ◌*◌, ◌≤◌, ◌<◌, ◌≡◌, Bool, true, false, List, ◌++◌, eqb, length, get_or, take, set, Result, Ok, Err}
 use Rattle.refusals.specs.declared.Refusal.{Refusal}
 use Rattle.tokens.specs.declared.Token.{Token}
 use Rattle.tokens.specs.Token.{tokens_from}
-use Rattle.rules.specs.Rule.{Leaf, Join, Rule, leaf}
+use Rattle.rules.specs.Rule.{Join, Rule}
+use Rattle.image.specs.Layout.{tag_kind}
 use Rattle.image.specs.Encode as image
 use Rattle.grammar.specs.Grammar.{ParseResult, got, bad}
 use Rattle.grammar.specs.Inner.Starts.{left}
-use Rattle.nodes.specs.declared.ParseEnd.{ParseEnd}
-use Rattle.nodes.specs.declared.ParseEnd.TheVariants.{Done, Refused}
+use Rattle.nodes.specs.declared.Nodes.{Nodes}
 
--- the three lent arrays
-pub record Arrays : Type 0 where
-  pub tags : List ℕ
-  pub args : List ℕ
-  pub names : List ℕ
+-- the arrays of nodes are as long as they are declared
+abbrev pub Long : {N : ℕ} → Nodes N → Type 0
+Long {N} b = (length b.tags ≡ N) × (length b.args ≡ N)
 
-abbrev pub arrays : List ℕ → List ℕ → List ℕ → Arrays
-arrays t a w = record { tags = t; args = a; names = w }
-
--- each has room for this many
-pub record Long (cap : ℕ) (b : Arrays) : Type 0 where
-  pub tags : length b.tags ≡ cap
-  pub args : length b.args ≡ cap
-  pub names : length b.names ≡ cap
-
--- before a call: the table has no faults, the position lies in the text after the brackets that are open, and there is room
+-- before a call: the position lies in the text after the brackets that are open, and there is room
 -- for a node and for a name byte for each byte of the text that is left
-pub record Before (class s : List ℕ) (at depth n m : ℕ) (b : Arrays) : Type 0 where
-  pub table : IsClassTable class
+pub record Before {N : ℕ} (s : List ℕ) (at depth : ℕ) (b : Nodes N) : Type 0 where
   pub inside : at ≤ length s
   pub shallow : depth ≤ at
-  pub roomy : n + (length s - at) ≤ length b.tags
-  pub wide : m + (length s - at) ≤ length b.tags
-  pub few : length b.tags ≤ 2048
-  pub long : Long (length b.tags) b
+  pub roomy : b.n + (length s - at) ≤ N
+  pub wide : b.m + (length s - at) ≤ N
+  pub few : N ≤ 2048
 
--- after the first n nodes and m name bytes of b, a holds T, A and N, up to n₁ and m₁
-pub record Holds (b a : Arrays) (n m n₁ m₁ : ℕ) (T A N : List ℕ) : Type 0 where
-  pub tags : take n₁ a.tags ≡ take n b.tags ++ T
-  pub args : take n₁ a.args ≡ take n b.args ++ A
-  pub names : take m₁ a.names ≡ take m b.names ++ N
-  pub more_tags : n₁ ≡ n + length T
-  pub more_args : n₁ ≡ n + length A
-  pub more_names : m₁ ≡ m + length N
+-- a holds, after the nodes and name bytes of b, the tags T, the arguments A and the name bytes W
+pub record Holds {N : ℕ} (b a : Nodes N) (T A W : List ℕ) : Type 0 where
+  pub tags : take a.n a.tags ≡ take b.n b.tags ++ T
+  pub args : take a.n a.args ≡ take b.n b.args ++ A
+  pub names : take a.m a.names ≡ take b.m b.names ++ W
+  pub more_tags : a.n ≡ b.n + length T
+  pub more_args : a.n ≡ b.n + length A
+  pub more_names : a.m ≡ b.m + length W
 
--- after it: G, with enough fuel, reads a rule and leaves the tokens from e on, and the rule's nodes come after the first n
-pub record ParsedRule (G : ℕ → ParseResult) (need : ℕ) (s : List ℕ) (at n m : ℕ) (b a : Arrays) (e n₁ m₁ : ℕ) : Type 0 where
+-- a holds, after those of b, the nodes of a rule
+abbrev pub Appended : {N : ℕ} → Rule → Nodes N → Nodes N → Type 0
+Appended t b a = Holds b a (image.tags t) (image.args t b.m) (image.names t)
+
+-- after it: G, with enough fuel, reads a rule and leaves the tokens from e on, and the rule's nodes are appended
+pub record ParsedRule {N : ℕ} (G : ℕ → ParseResult) (need : ℕ) (s : List ℕ) (at : ℕ) (b a : Nodes N) (e : ℕ) : Type 0 where
   pub tree : Rule
   pub says : (f : ℕ) → need ≤ f → G f ≡ got tree (tokens_from s e)
   pub on : at < e
   pub within : e ≤ length s
   pub fewer : left s e < left s at
-  pub some : n < n₁
-  pub room : n₁ + at ≤ n + e
-  pub width : m₁ + at ≤ m + e
-  pub holds : Holds b a n m n₁ m₁ (image.tags tree) (image.args tree m) (image.names tree)
+  pub some : b.n < a.n
+  pub room : a.n + at ≤ b.n + e
+  pub width : a.m + at ≤ b.m + e
+  pub holds : Appended tree b a
 
 -- either case of an answer
-pub record ParseAnswer (G : ℕ → ParseResult) (need : ℕ) (s : List ℕ) (at n m : ℕ) (b a : Arrays) (r : ParseEnd) : Type 0 where
-  pub done : (e n₁ m₁ : ℕ) → r ≡ Done e n₁ m₁ → ParsedRule G need s at n m b a e n₁ m₁
-  pub refused : (x : Refusal) → r ≡ Refused x → (f : ℕ) → need ≤ f → G f ≡ bad x
+abbrev pub ParseAnswer : {N : ℕ} → (ℕ → ParseResult) → ℕ → List ℕ → ℕ → Nodes N → Nodes N → Result ℕ Refusal → Type 0
+ParseAnswer G need s at b a (Ok e) = ParsedRule G need s at b a e
+ParseAnswer G need s at b a (Err x) = (f : ℕ) → need ≤ f → G f ≡ bad x
 
 -- of the text from a position on, by one of the grammar's functions and its level: three calls for each token left
-abbrev pub ParsedBy : (ℕ → List ℕ → ℕ → List Token → ParseResult) → ℕ → List ℕ → ℕ → ℕ → ℕ → ℕ → Arrays → Arrays → ParseEnd → Type 0
-ParsedBy G level s depth at n m b a r = ParseAnswer (λ (f : ℕ). G f s depth (tokens_from s at)) (3 * left s at + level) s at n m b a r
+abbrev pub ParsedBy : {N : ℕ} → (ℕ → List ℕ → ℕ → List Token → ParseResult) → ℕ → List ℕ → ℕ → ℕ → Nodes N → Nodes N → Result ℕ Refusal → Type 0
+ParsedBy G level s depth at b a r = ParseAnswer (λ (f : ℕ). G f s depth (tokens_from s at)) (3 * left s at + level) s at b a r
 
--- ---- what the functions that write nodes ask and promise
+-- ---- what the functions that append nodes ask and promise
 
--- room for a name, the part of a text from `start` to `end`, and for its node after the first n
-pub record NameRoom (s : List ℕ) (start end n m : ℕ) (b : Arrays) : Type 0 where
+-- room for a name, the part of a text from `start` to `end`, and for its node
+pub record NameRoom {N : ℕ} (s : List ℕ) (start end : ℕ) (b : Nodes N) : Type 0 where
   pub ordered : start ≤ end
   pub inside : end ≤ length s
-  pub room : n < length b.tags
-  pub width : m + (end - start) ≤ length b.tags
-  pub few : length b.tags ≤ 2048
-  pub long : Long (length b.tags) b
+  pub room : b.n < N
+  pub width : b.m + (end - start) ≤ N
+  pub few : N ≤ 2048
 
--- a leaf's node was written after the first n nodes of b, its name after the first m name bytes, and the text continues at `next`
-pub record Written (l : Leaf) (next n m : ℕ) (b a : Arrays) (r : ParseEnd) : Type 0 where
-  pub reached : r ≡ Done next (n + 1) (m + length (image.leaf_name l))
-  pub holds : Holds b a n m (n + 1) (m + length (image.leaf_name l)) (image.tags (leaf l)) (image.args (leaf l) m) (image.names (leaf l))
+-- room for a combinator's node, over those from `first` on
+pub record JoinRoom {N : ℕ} (first : ℕ) (b : Nodes N) : Type 0 where
+  pub some : first < b.n
+  pub room : b.n < N
+  pub few : N ≤ 2048
 
--- room in two arrays for a combinator's node after the first n, over those from `first` on
-pub record JoinRoom (first n : ℕ) (t a : List ℕ) : Type 0 where
-  pub some : first < n
-  pub tags : n < length t
-  pub args : n < length a
-  pub few : length t ≤ 2048
+-- one more node
+abbrev pub pushed : {N : ℕ} → ℕ → ℕ → Nodes N → Nodes N
+pushed t x b = record b { tags = set b.tags b.n t; args = set b.args b.n x; n = b.n + 1 }
 
--- it was written there
-pub record Joined (j : Join) (first n : ℕ) (t a t₁ a₁ : List ℕ) : Type 0 where
-  pub tags : t₁ ≡ set t n (image.tag (image.join_kind j) (n - first + 1))
-  pub args : a₁ ≡ set a n (image.join_arg j)
+-- a combinator's, over those from `first` on
+abbrev pub joined : {N : ℕ} → Join → ℕ → Nodes N → Nodes N
+joined j first b = pushed (image.tag (image.join_kind j) (b.n - first + 1)) (image.join_arg j) b
 
--- one less where a chain continues its left side
+-- one less where a chain continues its left side, whose root is the last node
 abbrev pub keep_if : Bool → ℕ → ℕ
 keep_if true n = n - 1
 keep_if false n = n
+
+abbrev pub without_root : {N : ℕ} → ℕ → Nodes N → Nodes N
+without_root kind b = record b { n = keep_if (eqb (tag_kind (get_or b.tags (b.n - 1) 0)) kind) b.n }

@@ -1,4 +1,5 @@
 -- How long what is said of a verdict is at most. Assumes nothing.
+use Rattle.std.specs.Prelude.{Ok, Err}
 use mathlib.Core.Path.{◌≡◌, refl}
 use mathlib.Core.Bool.{Bool, true, false, cond, ◌&&◌, and-eq-true_iff}
 use mathlib.Core.List.{List, [], ◌∷◌}
@@ -7,11 +8,12 @@ use native.Mathlib.Omega.{arith}
 use borrow.Author.Tests.{leb-true, ltb-true, ltb-false}
 use lib.Dec.{eqb, leb, ltb}
 use lib.ListN.{length, take, drop, get_or, length-append, length-take, length-drop}
-use Rattle.refusals.specs.Refusals.{row, table, row_of}
-use Rattle.refusals.specs.declared.Row.{Row}
+use Rattle.refusals.specs.Refusals.{number}
+use Rattle.refusals.specs.declared.Cause.{Cause}
+use Rattle.lines.proofs.Laws.CauseLaws.{word_short, meaning_short}
 use Rattle.decimal.proofs.Laws.DigitsLaws.{digits_short}
 use Rattle.lines.specs.Lines.{meaning_line}
-use Rattle.lines.proofs.Laws.LinesLaws.{trimmed_length, shown_length}
+use Rattle.lines.proofs.Laws.LinesLaws.{shown_length}
 use Rattle.rules.specs.Rule.{Rule}
 use Rattle.image.specs.Layout.{node_count_in}
 use Rattle.image.specs.Encode.{encode}
@@ -20,38 +22,19 @@ use Rattle.grammar.specs.Reading.{Read, rule, refused, read_of}
 use Rattle.grammar.proofs.Laws.FitsLaws.{read_decodes, read_length}
 use Rattle.store_table.specs.Stores.{entries_from, entries_in, modes_in, lengths_in, name_bytes_in, sum, write_only, write_only_names}
 use Rattle.store_table.specs.Inner.Bounds.{TableInBounds}
-use Rattle.verdict.specs.declared.Verdict.{Verdict}
-use Rattle.verdict.specs.declared.Verdict.TheVariants.{Pass, Refused}
+use Rattle.verdict.specs.Verdict.{Verdict}
 use Rattle.image.proofs.Laws.InsideLaws.{Whole, decode_whole}
 use Rattle.page_text.specs.Report.{verdict_line, node_names, node_name, confirmed_lines}
 use Rattle.page_text.proofs.Laws.NodeNameLaws.{name_in, unnamed, name_at, past_last}
 
 -- ---- the first line
 pub verdict_short : (v : Verdict) → length (verdict_line v) ≤ 45
-verdict_short Pass = omega arith
-verdict_short (Refused f) = simp length-append (omega (arith, digits_short f.number, digits_short f.place))
+verdict_short (Ok u) = omega arith
+verdict_short (Err f) = simp length-append (omega (arith, digits_short (number f.cause), digits_short f.place))
 
--- ---- a refusal's meaning, by the table's rows
-abbrev fits : Row → Bool
-fits r = leb (length r.word) 18 && leb (length r.meaning) 64
-
-all_fit : List Row → Bool
-all_fit [] = true
-all_fit (r ∷ rs) = fits r && all_fit rs
-
-fits_at : (rs : List Row) (n : ℕ) (d : Row) → all_fit rs ≡ true → fits d ≡ true → fits (get_or rs n d) ≡ true
-unfolding all_fit
-fits_at [] n d h k = k
-fits_at (r ∷ rs) zero d h k = ((and-eq-true_iff (fits r) (all_fit rs)).0 h).0
-fits_at (r ∷ rs) (suc n) d h k = fits_at rs n d ((and-eq-true_iff (fits r) (all_fit rs)).0 h).1 k
-
-pub meaning_short : (n : ℕ) → length (meaning_line n) ≤ 85
-unfolding row_of all_fit
-meaning_short n =
-    let r = row_of n in
-    let h = (and-eq-true_iff (leb (length r.word) 18) (leb (length r.meaning) 64)).0 (fits_at (row 0 "" "" ∷ table) n (row n "" "") refl refl) in
-    simp length-append
-    (omega (arith, trimmed_length r.word, trimmed_length r.meaning, leb-true (length r.word) 18 h.0, leb-true (length r.meaning) 64 h.1))
+-- ---- a refusal's meaning
+pub meaning_line_short : (c : Cause) → length (meaning_line c) ≤ 85
+meaning_line_short c = simp length-append (omega (arith, word_short c, meaning_short c))
 
 -- ---- a node's name, which lies in an image
 meant_short : (s : List ℕ) (n k a : ℕ) → length (name_in (meaning s n k a)) ≤ length s

@@ -5,12 +5,12 @@ use Rattle.store_table.proofs.Laws.WalkLaws.{length_entries}
 use Rattle.page_text.proofs.Laws.PassLaws.{pass_none, pass_some}
 use Rattle.page_text.proofs.append_pass.Goals as goal
 
-pub returns-then-count_of-lt1 : goal.returns-then-count_of-lt1
-returns-then-count_of-lt1 c =
-    rw (← pass_none (entries_in c.args.stores.now) (omega (arith, length_entries c.args.stores.now c.requires.0, c.count_of.ensures)))
+pub returns-then-none : goal.returns-then-none
+returns-then-none c =
+    rw (← pass_none (entries_in c.args.stores.bytes.now) (omega (arith, length_entries c.args.stores.bytes.now c.args.stores.in_bounds, c.count-none.ensures)))
     c.append.ensures
 
 pub returns : goal.returns
 returns c =
-    rw (← pass_some (entries_in c.args.stores.now) (omega (arith, length_entries c.args.stores.now c.requires.0, c.count_of.ensures)))
+    rw (← pass_some (entries_in c.args.stores.bytes.now) (omega (arith, length_entries c.args.stores.bytes.now c.args.stores.in_bounds, c.count-none.ensures)))
     c.append-2.ensures

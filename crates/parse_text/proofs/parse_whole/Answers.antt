@@ -1,26 +1,18 @@
 -- `parse_text::parse_whole` meets its contract: what is left after the rule is the end, or it is refused. Assumes nothing.
-use mathlib.Core.Path.{sym, ◌∙◌}
-use Rattle.parse_text.proofs.Laws.ParseTextLaws.{answered_done, answered_refused, parse_refused, parse_trailing, parse_whole}
-use Rattle.grammar.proofs.Tags.{others, not_kind}
-use borrow.Enum.Refused.{opened}
+use mathlib.Core.Path.{sym, ap, ◌∙◌}
+use Rattle.grammar.specs.Reading.{refused}
+use Rattle.parse_text.proofs.Laws.ParseTextLaws.{refused_on, parse_refused, parse_trailing, parse_whole, not_end}
 use Rattle.parse_text.proofs.parse_whole.Goals as goal
 
-pub returns-in_default : goal.returns-in_default
-returns-in_default c =
-    let p = c.parse_or-whole.ensures in
-    answered_refused c.in_default.is (parse_refused _ (p.refused _ c.in_default.is))
+pub returns-in_err-end : goal.returns-in_err-end
+returns-in_err-end g c =
+    refused_on _ _ c.from_residual.result c.from_residual.ensures.1 (parse_refused _ c.in_err-end.ensures)
 
-pub returns-in_default-rest : goal.returns-in_default-rest
-returns-in_default-rest c =
-    let p = c.parse_or-whole.ensures in
+pub returns-in_default : goal.returns-in_default
+returns-in_default g c =
     let t = c.token_from-rest in
-    answered_refused c.refuse.ensures
-    (parse_trailing _ (p.done _ _ _ c.in-Done.is) (sym t.ensures)
-    (not_kind (others 0) 0 tt t.result (opened c.in_default-rest.in_default-rest-own.keys2)) c.place_of.ensures)
+    parse_trailing _ c.requires c.in_ok-end.ensures (sym t.ensures) (not_end t.result c.in_default.not-End) c.place_of.ensures
+    ∙ ap refused (sym c.at.ensures)
 
 pub returns : goal.returns
-returns c =
-    let p = c.parse_or-whole.ensures in
-    answered_done
-    (parse_whole _ (p.done _ _ _ c.in-Done.is)
-    (sym c.token_from-rest.ensures ∙ c.in-End.is))
+returns g c = parse_whole _ c.requires c.in_ok-end.ensures (sym c.token_from-rest.ensures ∙ c.in-End.is)

@@ -5,7 +5,6 @@ use Rattle.tokens.specs.Token.{next_of}
 use Rattle.grammar.proofs.Laws.TokenListLaws.{word_part, steps}
 use Rattle.grammar.proofs.Laws.StartLaws.{begins_group, begins_refused, begins_within, head_next, too_deep_lem, not_deep}
 use Rattle.grammar.proofs.Tags.{no_primary}
-use borrow.Enum.Refused.{opened}
 use Rattle.primary_start.proofs.primary_start_at.Goals as goal
 
 pub word_start-requires : goal.word_start-requires
@@ -16,7 +15,7 @@ word_start-requires c =
 pub returns-then-deep : goal.returns-then-deep
 unfolding next_of
 returns-then-deep c =
-    begins_refused c.refuse.ensures refl
+    begins_refused refl c.at.ensures
     (rw (head_next _ _ _ (sym c.token_at-t.ensures ∙ c.in-Open.is) refl, too_deep_lem c.if-deep.true (omega arith)))
 
 pub returns-in-Word : goal.returns-in-Word
@@ -36,4 +35,4 @@ returns-else-deep c =
 
 pub returns-in_default : goal.returns-in_default
 returns-in_default c =
-    begins_refused c.refuse-in_default.ensures c.place_of.ensures (no_primary _ _ c.token_at-t.ensures _ (opened c.in_default.in_default-own.keys3))
+    begins_refused refl c.at-in_default.ensures (rw c.place_of.ensures (no_primary _ _ c.token_at-t.ensures c.in_default.not-Word _ c.in_default.not-Open))

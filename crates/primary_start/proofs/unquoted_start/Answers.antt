@@ -22,7 +22,7 @@ returns-then-eq_ignore_ascii_case c =
     begins_leaf
     (rw (
       test_off _ _ open_bracket c.bracket_at.ensures (omega arith) (omega arith) c.in_default.is,
-      told is_readable c.word_of-word.ensures c.eq_ignore_ascii_case.ensures c.if-eq_ignore_ascii_case.true,
+      told is_readable c.word_of-bytes.ensures c.eq_ignore_ascii_case.ensures c.if-eq_ignore_ascii_case.true,
     ))
     (omega arith)
 
@@ -32,33 +32,33 @@ returns-in_default c =
     begins_name
     (rw (
       test_off _ _ open_bracket c.bracket_at.ensures (omega arith) (omega arith) c.in_default.is,
-      told is_readable c.word_of-word.ensures c.eq_ignore_ascii_case.ensures c.if-eq_ignore_ascii_case.false,
+      told is_readable c.word_of-bytes.ensures c.eq_ignore_ascii_case.ensures c.if-eq_ignore_ascii_case.false,
     ))
     (omega arith)
     (omega arith)
 
 pub overflow_sub-inside : goal.overflow_sub-inside
 overflow_sub-inside c =
-    let inside = (test_on _ _ open_bracket c.bracket_at.ensures c.in-To.is).bounds in
+    let inside = (test_on _ _ open_bracket c.bracket_at.ensures c.in-Some.is).bounds in
     omega arith
 
 pub returns-then-deep : goal.returns-then-deep
 returns-then-deep c =
-    begins_refused c.refuse.ensures refl
+    begins_refused refl c.at.ensures
     (rw (
-      (test_on _ _ open_bracket c.bracket_at.ensures c.in-To.is).sign,
+      (test_on _ _ open_bracket c.bracket_at.ensures c.in-Some.is).sign,
       too_deep_lem c.if-deep.true (omega arith),
-      test_place _ _ open_bracket c.bracket_at.ensures c.in-To.is (omega arith),
+      test_place _ _ open_bracket c.bracket_at.ensures c.in-Some.is (omega arith),
     ))
 
 pub call_start-requires : goal.call_start-requires
 call_start-requires c =
-    let inside = (test_on _ _ open_bracket c.bracket_at.ensures c.in-To.is).bounds in
+    let inside = (test_on _ _ open_bracket c.bracket_at.ensures c.in-Some.is).bounds in
     omega arith
 
 pub returns : goal.returns
 returns c =
-    let opening = test_on _ _ open_bracket c.bracket_at.ensures c.in-To.is in
+    let opening = test_on _ _ open_bracket c.bracket_at.ensures c.in-Some.is in
     let inside = opening.bounds in
-    rw (opening.sign, not_deep c.if-deep.false (omega arith), ← c.function_of.ensures ∙ ap function_of c.word_of-word.ensures)
+    rw (opening.sign, not_deep c.if-deep.false (omega arith), ← c.function_of.ensures ∙ ap function_of c.word_of-bytes.ensures)
     (begins_within c.call_start.ensures (omega arith) (omega arith) (omega arith))

@@ -2,13 +2,15 @@
 use mathlib.Core.Path.{◌≡◌, ◌∙◌}
 use mathlib.Core.Bool.{true, false}
 use mathlib.Core.List.{List, ◌++◌}
+use Rattle.std.proofs.Common.{Ok, Err}
 use Prim.Native.Nat.{ℕ, ◌≤◌, ◌<◌}
 use native.Mathlib.Omega.{arith}
 use borrow.Author.Tests.{lt-ltb, le-ltb}
 use lib.ListN.{length, drop}
 use Rattle.slices.specs.Text.{WrittenAt}
 use Rattle.slices.proofs.Laws.WrittenLaws.{written_front}
-use Rattle.refusals.specs.Refusals.{refusal, short_buffer, bad_image}
+use Rattle.refusals.specs.Refusals.{refusal}
+use Rattle.refusals.specs.declared.Cause.TheVariants.{ShortBuffer, BadImage}
 use Rattle.rules.specs.Rule.{Rule, size}
 use Rattle.image.specs.Layout.{node_count_in}
 use Rattle.image.specs.Decode.{cell_at, decode}
@@ -18,18 +20,17 @@ use Rattle.image.specs.Inner.EncodedAt.{EncodedAt}
 use Rattle.image.proofs.Laws.InsideLaws.{decode_whole}
 use Rattle.print_text.specs.Print.{text_of}
 use Rattle.print.specs.Printed.{outcome, print_into}
-use Rattle.print.specs.declared.Printing.TheVariants.{Printed, Refused}
 
 -- of an image i and a buffer t
 module _ (i t : List ℕ) where
-  pub refused_16 : is_some (decode i) ≡ false → outcome (Refused (refusal bad_image 0)) t ≡ print_into i t
+  pub refused_16 : is_some (decode i) ≡ false → outcome (Err (refusal BadImage 0)) t ≡ print_into i t
   unfolding print_into
   refused_16 e = rw (is_some_false (decode i) e)
 
   -- k is the length of the text of whatever rule has all n nodes
   module _ (image : is_some (decode i) ≡ true) {n k : ℕ} (p : n ≡ node_count_in i)
       (long : (r : Rule) → size r ≡ n → EncodedAt r (cell_at i n) 0 → k ≡ length (text_of r)) where
-    pub refused_1 : length t < k → outcome (Refused (refusal short_buffer 0)) t ≡ print_into i t
+    pub refused_1 : length t < k → outcome (Err (refusal ShortBuffer 0)) t ≡ print_into i t
     unfolding print_into
     refused_1 short =
         let (r, e) = is_some_true (decode i) image in
@@ -39,7 +40,7 @@ module _ (i t : List ℕ) where
 
     -- and the text was written into the buffer so that it ends at k
     pub printed : {t' : List ℕ} {start : ℕ} → k ≤ length t →
-        ((r : Rule) → size r ≡ n → EncodedAt r (cell_at i n) 0 → WrittenAt t t' start k (text_of r)) → outcome (Printed k) t' ≡ print_into i t
+        ((r : Rule) → size r ≡ n → EncodedAt r (cell_at i n) 0 → WrittenAt t t' start k (text_of r)) → outcome (Ok k) t' ≡ print_into i t
     unfolding print_into
     printed {t'} {start} room puts =
         let (r, e) = is_some_true (decode i) image in

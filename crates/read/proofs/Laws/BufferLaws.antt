@@ -5,7 +5,9 @@ use Prim.Native.Nat.{ℕ, ◌+◌, ◌≤◌, ◌<◌}
 use native.Mathlib.Omega.{arith}
 use borrow.Author.Tests.{lt-ltb, le-ltb}
 use lib.ListN.{length, take, drop}
-use Rattle.refusals.specs.Refusals.{refusal, short_buffer}
+use Rattle.std.specs.Prelude.{Ok, Err}
+use Rattle.refusals.specs.Refusals.{refusal}
+use Rattle.refusals.specs.declared.Cause.TheVariants.{ShortBuffer}
 use Rattle.slices.specs.Text.{written}
 use Rattle.slices.proofs.Laws.WrittenLaws.{written_front}
 use Rattle.image.specs.Layout.{names_start}
@@ -13,13 +15,11 @@ use Rattle.image.specs.Encode.{image_of, encode}
 use Rattle.image.proofs.Laws.EncodeLaws.{length_encode}
 use Rattle.grammar.specs.Reading.{Read, read_of}
 use Rattle.read.specs.Outcome.{outcome, reading_of, read_into}
-use Rattle.grammar.specs.Inner.Starts.{left}
-use Rattle.nodes.specs.Inner.Parses.{Arrays}
+use Rattle.nodes.specs.declared.Nodes.{Nodes}
 use Rattle.parse_text.specs.Inner.Parsing.{Whole}
-use Rattle.read.specs.declared.Reading.TheVariants.{Read as Written, Refused as Unread}
 
 module _ (s i : List ℕ) where
-  pub says_short : length i < 26_628 → outcome (Unread (refusal short_buffer 0)) i ≡ read_into s i
+  pub says_short : length i < 26_628 → outcome (Err (refusal ShortBuffer 0)) i ≡ read_into s i
   unfolding read_into
   says_short h = rw (lt-ltb _ _ h)
 
@@ -27,14 +27,14 @@ module _ (s i : List ℕ) where
   unfolding read_into
   reads room e = rw (le-ltb _ _ room, e)
 
-module _ {x : Read} {s : List ℕ} {a : Arrays} {n m : ℕ} (w : Whole x s a n m) where
+module _ {x : Read} {s : List ℕ} {N : ℕ} {a : Nodes N} (w : Whole x s a) where
   -- the arrays' image is the rule's
-  image_is : image_of n (take n a.tags) (take n a.args) (take m a.names) ≡ encode w.tree
+  image_is : image_of a.n (take a.n a.tags) (take a.n a.args) (take a.m a.names) ≡ encode w.tree
   unfolding encode
   image_is = rw (w.tags, w.args, w.names, w.nodes)
 
-  pub says_rule : (i : List ℕ) {i' : List ℕ} {len : ℕ} → len ≡ names_start n + m →
-      i' ≡ written i 0 (image_of n (take n a.tags) (take n a.args) (take m a.names)) → outcome (Written len) i' ≡ reading_of x i
+  pub says_rule : (i : List ℕ) {i' : List ℕ} {len : ℕ} → len ≡ names_start a.n + a.m →
+      i' ≡ written i 0 (image_of a.n (take a.n a.tags) (take a.n a.args) (take a.m a.names)) → outcome (Ok len) i' ≡ reading_of x i
   says_rule i {i'} {len} q e =
       let r = w.tree in
       let long : len ≡ length (encode r) = omega (arith, length_encode r, w.nodes, w.bytes) in

@@ -6,18 +6,18 @@ use Prim.Native.Nat.{ℕ, ◌≤◌}
 use native.Mathlib.Omega.{arith}
 use lib.Dec.{ltb}
 use lib.ListN.{length}
+use Rattle.std.specs.Prelude.{Result, Ok, Err}
 use Rattle.refusals.specs.declared.Refusal.{Refusal}
-use Rattle.refusals.specs.Refusals.{refusal, short_buffer}
+use Rattle.refusals.specs.Refusals.{refusal}
+use Rattle.refusals.specs.declared.Cause.TheVariants.{ShortBuffer}
 use Rattle.grammar.specs.Reading.{Read, rule, refused, read_of}
 use Rattle.grammar.proofs.Laws.FitsLaws.{read_length}
 use Rattle.grammar.proofs.Laws.PlaceLaws.{read_place}
 use Rattle.read.specs.Outcome.{outcome, reading_of, read_into}
-use Rattle.read.specs.declared.Reading.{Reading}
-use Rattle.read.specs.declared.Reading.TheVariants.{Read as Written, Refused as Unread}
 
-abbrev Bounded : Reading → Type 0
-Bounded (Written size) = size ≤ 26_628
-Bounded (Unread f) = f.place ≤ 2048
+abbrev Bounded : Result ℕ Refusal → Type 0
+Bounded (Ok size) = size ≤ 26_628
+Bounded (Err f) = f.place ≤ 2048
 
 module _ (text buffer : List ℕ) where
   by_reading : (x : Read) → read_of text ≡ x → Bounded (reading_of x buffer).answer
@@ -28,12 +28,12 @@ module _ (text buffer : List ℕ) where
   unfolding read_into
   bounded = go (ltb (length buffer) 26_628)
     where
-      go : (b : Bool) → Bounded (cond b (outcome (Unread (refusal short_buffer 0)) buffer) (reading_of (read_of text) buffer)).answer
+      go : (b : Bool) → Bounded (cond b (outcome (Err (refusal ShortBuffer 0)) buffer) (reading_of (read_of text) buffer)).answer
       go true = omega arith
       go false = by_reading (read_of text) refl
 
-  pub read_value : (size : ℕ) → (read_into text buffer).answer ≡ Written size → size ≤ 26_628
+  pub read_value : (size : ℕ) → (read_into text buffer).answer ≡ Ok size → size ≤ 26_628
   read_value size e = rw e at bounded
 
-  pub refused_value : (f : Refusal) → (read_into text buffer).answer ≡ Unread f → f.place ≤ 2048
+  pub refused_value : (f : Refusal) → (read_into text buffer).answer ≡ Err f → f.place ≤ 2048
   refused_value f e = rw e at bounded

@@ -5,10 +5,10 @@ use Rattle.parse_text.proofs.Laws.ParseTextLaws.{read_long}
 use Rattle.read.proofs.read.Goals as goal
 
 pub returns-then-short : goal.returns-then-short
-returns-then-short c = says_short _ _ c.if-short.true
+returns-then-short c = rw c.at.ensures (says_short _ _ c.if-short.true)
 
 pub returns-then-long : goal.returns-then-long
-returns-then-long c = sym (reads _ _ c.if-short.false (read_long _ c.if-long.true))
+returns-then-long c = rw c.at-then-long.ensures (sym (reads _ _ c.if-short.false (read_long _ c.if-long.true)))
 
 pub returns : goal.returns
 returns c =

@@ -1,23 +1,25 @@
 -- Document 01's proved sheet, with the rows that document 02's jobs add or amend: one table. `SheetLaws` proves it by one statement over all
 -- of its rows. Assumes nothing.
+use Rattle.std.specs.Prelude.{Ok, Err}
 use mathlib.Core.List.{List, [], ◌∷◌}
 use Prim.Native.Nat.{ℕ}
 use Prim.Native.String.{String}
 use Rattle.slices.specs.Text.{bytes}
 use Rattle.refusals.specs.declared.Refusal.{Refusal}
-use Rattle.refusals.specs.Refusals.{refusal, half_sign, no_expression, bracket_expected, bad_count, empty_list, unconfirmed, archive_only}
-use Rattle.rules.specs.Rule.{named, older_than, readable, Join, all, any, Rule, leaf, node, nil, more, size}
+use Rattle.refusals.specs.Refusals.{refusal}
+use Rattle.refusals.specs.declared.Cause.{Cause}
+use Rattle.refusals.specs.declared.Cause.TheVariants.{HalfSign, NoExpression, BracketExpected, BadCount, EmptyList, Unconfirmed, ArchiveOnly}
+use Rattle.rules.specs.Rule.{named, older_than, Join, all, any, Rule, leaf, node, nil, more, size}
 use Rattle.grammar.specs.Reading.{Read, rule, refused, read_of}
 use Rattle.verdict.specs.Check.{judge_of}
-use Rattle.verdict.specs.declared.Verdict.{Verdict}
-use Rattle.verdict.specs.declared.Verdict.TheVariants.{Pass, Refused as NotPassed}
+use Rattle.verdict.specs.Verdict.{Verdict}
 use Rattle.print_text.specs.Print.{text_of}
 
 -- a row: a text with the rule that it reads as and how many nodes that has, with the refusal of reading it, with what its rule is
 -- printed as, or with what it is judged for the stores of the sheet
 pub data Example : Type 0 where
   reads : String → Rule → ℕ → Example
-  refuses : String → ℕ → ℕ → Example
+  refuses : String → Cause → ℕ → Example
   prints : String → String → Example
   judges : String → Verdict → Example
 
@@ -69,19 +71,19 @@ rows =
     reads "a && (b && c)" (two all (name "a") (two all (name "b") (name "c"))) 5 ∷
     prints "a && (b && c)" "a && b && c" ∷
     reads "(a && b) && c" (three all (name "a") (name "b") (name "c")) 4 ∷
-    refuses "any(a,)" no_expression 6 ∷
-    refuses "any()" empty_list 0 ∷
-    refuses "" no_expression 0 ∷
-    refuses "older_than(1h 30m)" bracket_expected 14 ∷
+    refuses "any(a,)" NoExpression 6 ∷
+    refuses "any()" EmptyList 0 ∷
+    refuses "" NoExpression 0 ∷
+    refuses "older_than(1h 30m)" BracketExpected 14 ∷
     reads "older_than(\"1h 30m\")" (leaf (older_than 5_400_000)) 1 ∷
-    refuses "readable(x" bad_count 9 ∷
-    refuses "older_than(x" bracket_expected 12 ∷
-    refuses ") a &" half_sign 4 ∷
+    refuses "readable(x" BadCount 9 ∷
+    refuses "older_than(x" BracketExpected 12 ∷
+    refuses ") a &" HalfSign 4 ∷
     -- document 02, Job 2: "The sheet's row `'READABLE'` becomes a name of eight bytes."
     reads "'READABLE'" (name "READABLE") 1 ∷
-    judges "nas || vault" (NotPassed (refusal archive_only 0)) ∷
-    judges "at_least(0, nas)" (NotPassed (refusal unconfirmed 0)) ∷
-    judges "at_least(2, nas, vault)" Pass ∷
+    judges "nas || vault" (Err (refusal ArchiveOnly 0)) ∷
+    judges "at_least(0, nas)" (Err (refusal Unconfirmed 0)) ∷
+    judges "at_least(2, nas, vault)" (Ok tt) ∷
     -- document 02, Job 1: "the sheet gains "1w 1d" as 691,200,000"
     reads "older_than(\"1w 1d\")" (leaf (older_than 691_200_000)) 1 ∷
     []

@@ -19,13 +19,12 @@ use Rattle.grammar.specs.Grammar.{after, first_place, expected_word, older_than_
 use Rattle.grammar.specs.Reading.{rule, parse_of, read_of}
 use Rattle.store_table.specs.Names.{has}
 use Rattle.store_table.specs.Stores.{sum, all_at_most, well_made, count_in, entries_in, is_readable, all_names, write_only_names, ready_count, twin_of}
-use Rattle.store_table.specs.declared.Twin.TheVariants.{No}
+use Rattle.std.specs.Prelude.{None, Ok}
 use Rattle.store_table.proofs.Laws.DistinctLaws.{no_twin_distinct}
 use Rattle.evaluate.specs.Evict.{evict}
 use Rattle.verdict.specs.Check.{unknown_in, check_rule, judge_of}
 use Rattle.verdict.specs.Guarantee.{Table, Known, Safe}
 use Rattle.verdict.proofs.Laws.GuaranteeLaws.{judged}
-use Rattle.verdict.specs.declared.Verdict.TheVariants.{Pass}
 use Rattle.sheet.proofs.Laws.Sheet.{home}
 
 bytes_of : (s : List ℕ) → all_at_most 255 s ≡ true → AllBytes s
@@ -38,7 +37,7 @@ home_bytes : AllBytes home
 unfolding all_at_most
 home_bytes = bytes_of home refl
 
-no_twin : twin_of (entries_in home) ≡ No
+no_twin : twin_of (entries_in home) ≡ None
 unfolding twin_of entries_in le_at has
 no_twin = refl
 
@@ -49,7 +48,7 @@ home_table = record { bytes = home_bytes; made = refl; stored = omega arith; dis
 abbrev pub text : List ℕ
 text = bytes "older_than(30d) && readable(1)"
 
-passes : judge_of text home ≡ Pass
+passes : judge_of text home ≡ Ok tt
 unfolding run run_end part lower equal_by class_of of_class other doubled quoted_to quoted_at unquoted_to unquoted_at token_of start_at
     token_at next_of tokens_by tokens_from scan_of count_of duration_of ascii place_of size after first_place expected_word older_than_start
     readable_start at_least_start function_of unquoted_leaf primary_start left_rules chain or_in parse_of read_of le_at all_ascii has sum

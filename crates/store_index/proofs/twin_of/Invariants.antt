@@ -1,13 +1,12 @@
--- `store_index::twin_of` meets its contract: no store before k has a twin before it, and those before k are indexed. Assumes nothing.
-use Prim.Native.Nat.{◌+◌, ◌-◌, ◌*◌, ◌≤◌}
-use Rattle.store_table.specs.Stores.{entries_in, names_start}
+-- `store_index::twin_of` meets its contract: none of the stores that were entered has a twin before it, and they are indexed. Assumes nothing.
+use mathlib.Core.Path.{◌≡◌}
+use Rattle.store_table.specs.Stores.{entries_in}
 use Rattle.store_table.proofs.Laws.EntriesLaws.{Seen}
-use Rattle.store_table.specs.Inner.Index.{Indexed, EntryWalk}
+use Rattle.store_table.specs.Inner.Index.{Indexed}
 use Rattle.store_index.proofs.twin_of.Given as goal
 
-abbrev pub invariant-loop-k : goal.invariant-loop-k
-invariant-loop-k l =
-    EntryWalk l.stores l.count l.k l.at × Seen (entries_in l.stores) l.k × Indexed l.stores l.k l.starts l.slots × (l.at ≤ names_start l.count + 255 * l.k) × (l.k ≤ l.count)
-
-abbrev pub decreases-loop-k : goal.decreases-loop-k
-decreases-loop-k l = l.count - l.k
+abbrev pub invariant-loop-place : goal.invariant-loop-place
+invariant-loop-place l =
+    let i = l.place-iterator in
+    let s = l.table.bytes.now in
+    (i.table.bytes.now ≡ s) × Seen (entries_in s) i.index × Indexed s i.index l.index.starts l.index.slots

@@ -11,8 +11,7 @@ use Rattle.store_table.specs.Names.{same_name, has}
 use Rattle.store_table.specs.Stores.{Entry, twin_from, twin_of, Distinct}
 use Rattle.store_table.proofs.Laws.MemberLaws.{same_eq}
 use Rattle.store_table.proofs.Laws.EntryLaws.{one_place}
-use Rattle.store_table.specs.declared.Twin.{Twin}
-use Rattle.store_table.specs.declared.Twin.TheVariants.{No, At}
+use Rattle.std.specs.Prelude.{None, Option, Some}
 
 -- an entry at an index is the first of those from there on
 dropped : (es : List Entry) (i : ℕ) {d : Entry} → get_elem? es i ≡ some d → (xs : List Entry) × (drop i es ≡ d ∷ xs)
@@ -36,21 +35,21 @@ module _ (x : Entry) (es : List Entry) (distinct : Distinct (x ∷ es)) where
       go true s h = distinct 0 (suc i) x d (omega arith) refl e (sym (same_eq d.name x.name s))
       go false s h = unseen (suc i) d e h
 
-no_twins : (seen : List (List ℕ)) (k : ℕ) (es : List Entry) → Distinct es → Unseen seen es → twin_from seen k es ≡ No
+no_twins : (seen : List (List ℕ)) (k : ℕ) (es : List Entry) → Distinct es → Unseen seen es → twin_from seen k es ≡ None
 unfolding twin_from has
 no_twins seen k [] distinct unseen = refl
 no_twins seen k (x ∷ es) distinct unseen =
     go (has x.name seen) refl (no_twins (x.name ∷ seen) (suc k) es (distinct_rest x es distinct) (unseen_rest x es distinct seen unseen))
   where
-    go : (b : Bool) → has x.name seen ≡ b → {t : Twin} → t ≡ No → cond b (At k) t ≡ No
+    go : (b : Bool) → has x.name seen ≡ b → {t : Option ℕ} → t ≡ None → cond b (Some k) t ≡ None
     go true h e = absurd (unseen 0 x refl h)
     go false h e = e
 
-pub no_twin_distinct : (es : List Entry) → (twin_of es ≡ No) ↔ Distinct es
+pub no_twin_distinct : (es : List Entry) → (twin_of es ≡ None) ↔ Distinct es
 unfolding twin_of has
 no_twin_distinct es = (to, λ distinct. no_twins [] 0 es distinct (λ i d e h. let z : ◌≡◌ {A = ℕ} 0 1 = cc in omega arith))
   where
-    to : twin_of es ≡ No → Distinct es
+    to : twin_of es ≡ None → Distinct es
     to t i j d e lt p q n =
         let (xs, f) = dropped es i p in
         let (ys, g) = dropped es j q in

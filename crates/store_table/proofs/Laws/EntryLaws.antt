@@ -18,8 +18,7 @@ use Rattle.store_table.specs.Names.{same_name, has}
 use Rattle.store_table.proofs.Laws.MemberLaws.{mem_has}
 use Rattle.store_table.specs.Stores.{lengths_start, write_only, Entry, entries_from, entries_in, count_in, modes_in, lengths_in, name_bytes_in, all_at_most, well_made, is_readable, all_names, write_only_names, ready_count, twin_from, twin_of}
 use Rattle.store_table.proofs.Laws.StoresLaws.{made}
-use Rattle.store_table.specs.declared.Twin.{Twin}
-use Rattle.store_table.specs.declared.Twin.TheVariants.{No, At}
+use Rattle.std.specs.Prelude.{None, Option, Some}
 
 -- ---- the names of entries: each is some entry's, and each entry has its name among them
 pub name_entry : (w : List ℕ) (es : List Entry) → Memᴰ w (all_names es) → (e : Entry) × Memᴰ e es × (e.name ≡ w)
@@ -80,8 +79,8 @@ pub has_at : (es : List Entry) (first k : ℕ) {x : Entry} {xs : List Entry} →
 has_at es first k {x} lt e = mem_has (entry_named x (take first es) (at_take es first k lt e))
 
 -- ---- no two entries share a name where there is no twin
-no_twin : (b : Bool) (i : ℕ) (r : Twin) → cond b (At i) r ≡ No → (b ≡ false) × (r ≡ No)
-no_twin true i r e = absurd (let z : ◌≡◌ {A = ℕ} 0 1 = cc in omega arith)
+no_twin : (b : Bool) (i : ℕ) (r : Option ℕ) → cond b (Some i) r ≡ None → (b ≡ false) × (r ≡ None)
+no_twin true i r e = absurd (cc)
 no_twin false i r e = (refl, e)
 
 neither : (a b : Bool) → (a || b) ≡ false → b ≡ false
@@ -89,7 +88,7 @@ neither true b e = absurd (true≢false e)
 neither false b e = e
 
 -- each entry's name is not one that was seen
-unseen : (seen : List (List ℕ)) (i : ℕ) (es : List Entry) → twin_from seen i es ≡ No → (e : Entry) → Memᴰ e es → has e.name seen ≡ false
+unseen : (seen : List (List ℕ)) (i : ℕ) (es : List Entry) → twin_from seen i es ≡ None → (e : Entry) → Memᴰ e es → has e.name seen ≡ false
 unfolding twin_from has
 unseen seen i [] t e m = elim m [ ]
 unseen seen i (x ∷ es) t e (Memᴰ.head p) = rw p (no_twin (has x.name seen) i _ t).0
@@ -97,15 +96,15 @@ unseen seen i (x ∷ es) t e (Memᴰ.tail m) =
     neither (same_name e.name x.name) (has e.name seen) (unseen (x.name ∷ seen) (suc i) es (no_twin (has x.name seen) i _ t).1 e m)
 
 -- nor that of an entry before it
-module _ (seen : List (List ℕ)) (i : ℕ) (x : Entry) (es : List Entry) (t : twin_from seen i (x ∷ es) ≡ No) where
-  later : twin_from (x.name ∷ seen) (suc i) es ≡ No
+module _ (seen : List (List ℕ)) (i : ℕ) (x : Entry) (es : List Entry) (t : twin_from seen i (x ∷ es) ≡ None) where
+  later : twin_from (x.name ∷ seen) (suc i) es ≡ None
   unfolding twin_from
   later = (no_twin (has x.name seen) i _ t).1
 
   apart : (y : Entry) → Memᴰ y es → y.name ≡ x.name → ⊥
   apart y m e = true≢false (sym (mem_has (Memᴰ.head {xs = seen} e)) ∙ unseen (x.name ∷ seen) (suc i) es later y m)
 
-one_from : (seen : List (List ℕ)) (i : ℕ) (es : List Entry) → twin_from seen i es ≡ No → (e f : Entry) → Memᴰ e es →
+one_from : (seen : List (List ℕ)) (i : ℕ) (es : List Entry) → twin_from seen i es ≡ None → (e f : Entry) → Memᴰ e es →
     Memᴰ f es → e.name ≡ f.name → e ≡ f
 one_from seen i [] t e f m k n = absurd (Memᴰ.not-nil m)
 one_from seen i (x ∷ es) t e f m k n = go (λ l j. one_from (x.name ∷ seen) (suc i) es (later seen i x es t) e f l j n) m k
@@ -116,20 +115,20 @@ one_from seen i (x ∷ es) t e f m k n = go (λ l j. one_from (x.name ∷ seen) 
     go below (Memᴰ.tail l) (Memᴰ.head q) = absurd (apart seen i x es t e l (rw q at n))
     go below (Memᴰ.tail l) (Memᴰ.tail j) = below l j
 
-pub one_of_name : (es : List Entry) → twin_of es ≡ No → (e f : Entry) → Memᴰ e es → Memᴰ f es → e.name ≡ f.name → e ≡ f
+pub one_of_name : (es : List Entry) → twin_of es ≡ None → (e f : Entry) → Memᴰ e es → Memᴰ f es → e.name ≡ f.name → e ≡ f
 unfolding twin_of
 one_of_name es t = one_from [] 0 es t
 
 -- nor is one name at two indices
-place_from : (seen : List (List ℕ)) (i : ℕ) (es : List Entry) → twin_from seen i es ≡ No →
+place_from : (seen : List (List ℕ)) (i : ℕ) (es : List Entry) → twin_from seen i es ≡ None →
     (k j : ℕ) {x y : Entry} {xs ys : List Entry} → drop k es ≡ x ∷ xs → drop j es ≡ y ∷ ys → x.name ≡ y.name → k ≡ j
-place_from seen i [] t k j p q n = absurd (let z : ◌≡◌ {A = ℕ} 0 1 = cc (drop-nil {A = Entry} k) in omega arith)
+place_from seen i [] t k j p q n = absurd (cc (drop-nil {A = Entry} k))
 place_from seen i (z ∷ es) t zero zero p q n = refl
 place_from seen i (z ∷ es) t zero (suc j) {x} {y} p q n = absurd (apart seen i z es t y (at_mem es j q) (cc))
 place_from seen i (z ∷ es) t (suc k) zero {x} p q n = absurd (apart seen i z es t x (at_mem es k p) (cc))
 place_from seen i (z ∷ es) t (suc k) (suc j) p q n = ap suc (place_from (z.name ∷ seen) (suc i) es (later seen i z es t) k j p q n)
 
-pub one_place : (es : List Entry) → twin_of es ≡ No → (k j : ℕ) {x y : Entry} {xs ys : List Entry} → drop k es ≡ x ∷ xs →
+pub one_place : (es : List Entry) → twin_of es ≡ None → (k j : ℕ) {x y : Entry} {xs ys : List Entry} → drop k es ≡ x ∷ xs →
     drop j es ≡ y ∷ ys → x.name ≡ y.name → k ≡ j
 unfolding twin_of
 one_place es t = place_from [] 0 es t

@@ -1,47 +1,41 @@
--- Sums and tests of bytes that lie at a position, from the kth of them on. Assumes nothing.
-use mathlib.Core.Path.{◌≡◌, ◌∙◌}
-use mathlib.Core.Bool.{true, false}
+-- Bytes that lie at a position, and the sums and the tests of bytes that the library has. Assumes nothing.
+use mathlib.Core.Path.{◌≡◌, refl, sym, ap, ◌∙◌}
+use mathlib.Core.Bool.{Bool, true, false, false≢true, and-eq-true_iff, not-eq-not}
+use mathlib.Core.Logic.{◌↔◌}
 use mathlib.Core.List.{List, [], ◌∷◌}
-use Prim.Native.Nat.{ℕ, ◌+◌, ◌≤◌, ◌<◌}
-use native.Mathlib.Numerals.{add-one}
 use native.Mathlib.Omega.{arith}
-use borrow.Author.Tests.{le-leb, lt-leb}
-use lib.ListN.{length, take, drop, get_or, length-drop, drop_of_length-le}
-use lib.Seq.{length-take-le, drop-cons, get_or-take, get_or-drop}
+use Prim.Native.Nat.{ℕ, zero, suc, ◌+◌, ◌≤◌, ◌<◌}
+use lib.Dec.{leb}
+use lib.ListN.{take, drop, get_or}
+use lib.Seq.{get_or-take, get_or-drop}
+use Rattle.std.specs.Prelude.{IsTrue}
+use Rattle.std.specs.List.{All}
+use borrow.Author.Tests.{le-leb, leb-true}
+use Rattle.std.specs.List.{sum as sum_l}
+use Rattle.std.proofs.lemmas.List.Sums.{sum_by-cons}
 use Rattle.store_table.specs.Stores.{sum, all_at_most}
 
--- n bytes from a position on
-module _ (s : List ℕ) (at n k : ℕ) (fits : at + n ≤ length s) where
-  part_length : length (take n (drop at s)) ≡ n
-  part_length = length-take-le n (drop at s) (simp length-drop (omega arith))
+-- byte k of n bytes from a position on
+pub part_get : (s : List ℕ) (at n k : ℕ) → k < n → get_or (take n (drop at s)) k 0 ≡ get_or s (at + k) 0
+part_get s at n k lt = get_or-take n (drop at s) k 0 lt ∙ get_or-drop at s k 0
 
-  pub part_end : n ≤ k → drop k (take n (drop at s)) ≡ []
-  part_end le = drop_of_length-le (take n (drop at s)) {i = k} (omega (arith, part_length))
+-- the sum is the library's, and so is the test of each byte
+pub sum_same : (xs : List ℕ) → sum_l xs ≡ sum xs
+unfolding sum
+sum_same [] = refl
+sum_same (x ∷ xs) = sum_by-cons (λ y. y) x xs ∙ ap (λ n. x + n) (sum_same xs)
 
-  pub sum_end : n ≤ k → sum (drop k (take n (drop at s))) ≡ 0
-  unfolding sum
-  sum_end le = rw (part_end le)
+most_all : (most : ℕ) (xs : List ℕ) → All (λ x. x ≤ most) xs → all_at_most most xs ≡ true
+unfolding all_at_most
+most_all most [] h = refl
+most_all most (x ∷ xs) h = rw (le-leb x most (h 0 0 (omega arith))) (most_all most xs (λ k d lt. h (suc k) d (omega arith)))
 
-  pub most_end : (most : ℕ) → n ≤ k → all_at_most most (drop k (take n (drop at s))) ≡ true
-  unfolding all_at_most
-  most_end most le = rw (part_end le)
+all_most : (most : ℕ) (xs : List ℕ) → all_at_most most xs ≡ true → All (λ x. x ≤ most) xs
+unfolding all_at_most
+all_most most [] e k d lt = absurd (omega arith)
+all_most most (x ∷ xs) e zero d lt = leb-true x most ((and-eq-true_iff (leb x most) (all_at_most most xs)).0 e).0
+all_most most (x ∷ xs) e (suc k) d lt = all_most most xs ((and-eq-true_iff (leb x most) (all_at_most most xs)).0 e).1 k d (omega arith)
 
-  module _ (lt : k < n) where
-    pub part_get : get_or (take n (drop at s)) k 0 ≡ get_or s (at + k) 0
-    part_get = get_or-take n (drop at s) k 0 lt ∙ get_or-drop at s k 0
-
-    pub part_at_lem : drop k (take n (drop at s)) ≡ get_or s (at + k) 0 ∷ drop (k + 1) (take n (drop at s))
-    part_at_lem = drop-cons (take n (drop at s)) k 0 (omega (arith, part_length)) ∙ rw (part_get, add-one)
-
-    pub sum_on : sum (drop k (take n (drop at s))) ≡ get_or s (at + k) 0 + sum (drop (k + 1) (take n (drop at s)))
-    unfolding sum
-    sum_on = rw part_at_lem
-
-    module _ (most : ℕ) where
-      pub most_on : get_or s (at + k) 0 ≤ most → all_at_most most (drop k (take n (drop at s))) ≡ all_at_most most (drop (k + 1) (take n (drop at s)))
-      unfolding all_at_most
-      most_on h = rw (part_at_lem, le-leb (get_or s (at + k) 0) most h)
-
-      pub most_off : most < get_or s (at + k) 0 → all_at_most most (drop k (take n (drop at s))) ≡ false
-      unfolding all_at_most
-      most_off h = rw (part_at_lem, lt-leb (get_or s (at + k) 0) most h)
+pub most_where : (most : ℕ) (xs : List ℕ) (b : Bool) → IsTrue b ↔ All (λ x. x ≤ most) xs → b ≡ all_at_most most xs
+most_where most xs true h = sym (most_all most xs (h.0 refl))
+most_where most xs false h = sym (not-eq-not.0 (λ e. false≢true (h.1 (all_most most xs e))))

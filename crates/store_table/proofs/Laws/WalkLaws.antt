@@ -1,15 +1,17 @@
 -- A walk over the entries of a table or a list, by their modes, their lengths and where the next name begins. Assumes nothing.
-use mathlib.Core.Path.{◌≡◌, refl, sym, ap, ◌∙◌}
+use mathlib.Core.Path.{◌≡◌, refl, sym, ◌∙◌}
 use mathlib.Core.List.{List, [], ◌∷◌}
-use Prim.Native.Nat.{ℕ, zero, suc, ◌+◌, ◌-◌, ◌≤◌, ◌<◌}
+use Prim.Native.Nat.{ℕ, zero, suc, ◌+◌, ◌-◌, ◌*◌, ◌≤◌, ◌<◌}
 use native.Mathlib.Numerals.{add-one}
 use native.Mathlib.Omega.{arith}
 use lib.ListN.{length, take, drop, get_or, length-drop}
 use lib.Seq.{length-take-le, take_all, drop-nil, drop-cons, drop-drop}
+use Rattle.slices.specs.Text.{AllBytes}
+use Rattle.little_endian.proofs.Laws.BytesLaws.{bytes_at}
 use Rattle.store_table.specs.Stores.{modes_start, lengths_start, names_start, Entry, entries_from, entries_in, count_in, modes_in, lengths_in, name_bytes_in, sum}
 use Rattle.store_table.specs.Inner.Bounds.{TableInBounds}
-use Rattle.store_table.proofs.Laws.PartLaws.{part_get, part_at_lem, sum_on}
-use Rattle.store_table.specs.Inner.Index.{EntryWalk, EntryAt, length_at}
+use Rattle.store_table.proofs.Laws.PartLaws.{part_get}
+use Rattle.store_table.specs.Inner.Index.{EntryAt, NameAt, length_at, name_start_at}
 
 -- ---- there are as many entries as the count says
 length_from : (n : ℕ) (ms ls bs : List ℕ) → length ms ≡ n → length ls ≡ n → length (entries_from ms ls bs) ≡ n
@@ -44,50 +46,96 @@ mode_from (m ∷ ms) (l ∷ ls) bs (suc k) e = mode_from ms ls (drop l bs) k e
 
 pub mode_of : (s : List ℕ) (k : ℕ) {x : Entry} → TableInBounds s → k < count_in s → EntryAt (entries_in s) k x → get_or s (modes_start + k) 0 ≡ x.mode
 unfolding entries_in
-mode_of s k h lt e = sym (part_get s modes_start (count_in s) k (omega arith) lt) ∙ mode_from (modes_in s) (lengths_in s) (name_bytes_in s) k e
+mode_of s k h lt e = sym (part_get s modes_start (count_in s) k lt) ∙ mode_from (modes_in s) (lengths_in s) (name_bytes_in s) k e
 
 -- the length of its name is the byte of that index among the lengths
 pub length_of : (s : List ℕ) {count : ℕ} (k : ℕ) → TableInBounds s → count ≡ count_in s → k < count → get_or s (lengths_start count + k) 0 ≡ length_at s k
-length_of s k h e lt = rw e (sym (part_get s (lengths_start (count_in s)) (count_in s) k (omega arith) (omega arith)))
+length_of s k h e lt = rw e (sym (part_get s (lengths_start (count_in s)) (count_in s) k (omega arith)))
 
-pub standing_start : (s : List ℕ) (count : ℕ) → TableInBounds s → count ≡ count_in s → EntryWalk s count 0 (names_start count)
-unfolding entries_in
-standing_start s count h e = record { in_bounds = h; counted = e; fills = omega (arith, h.names); rest = rw e }
+-- ---- where each name begins: after the lengths before it
+entries_of_none : (ms bs : List ℕ) → entries_from ms [] bs ≡ []
+unfolding entries_from
+entries_of_none [] bs = refl
+entries_of_none (m ∷ ms) bs = refl
 
--- entry k, whose name has the bytes from `at` up to `at + len`
-abbrev pub entry_at : List ℕ → ℕ → ℕ → ℕ → Entry
-entry_at s k at len = record { mode = get_or (modes_in s) k 0; name = take (at + len - at) (drop at s) }
+-- the entries from k on are cut from where name k begins
+rest_from : (ms ls bs : List ℕ) (k : ℕ) → drop k (entries_from ms ls bs) ≡ entries_from (drop k ms) (drop k ls) (drop (sum (take k ls)) bs)
+unfolding entries_from sum
+rest_from ms ls bs zero = refl
+rest_from [] ls bs (suc k) = refl
+rest_from (m ∷ ms) [] bs (suc k) = sym (entries_of_none (drop k ms) bs)
+rest_from (m ∷ ms) (l ∷ ls) bs (suc k) = rest_from ms ls (drop l bs) k ∙ rw drop-drop
 
--- one entry more, of this length
-module _ {s : List ℕ} {count k at : ℕ} (h : EntryWalk s count k at) (lt : k < count) {len : ℕ} (e : len ≡ length_at s k) where
-  length_at_lem : len ≡ get_or s (lengths_start (count_in s) + k) 0
-  length_at_lem = e ∙ sym (length_of s k h.in_bounds refl (omega arith))
+pub name_start_first : (s : List ℕ) → name_start_at s 0 ≡ names_start (count_in s)
+unfolding sum
+name_start_first s = omega arith
 
-  rest_on : drop k (entries_in s) ≡ entry_at s k at len ∷ entries_from (drop (k + 1) (modes_in s)) (drop (k + 1) (lengths_in s)) (drop (at + len) s)
-  unfolding entries_from
-  rest_on =
-      let p : at + len - at ≡ len = omega arith in
-      h.rest
-      ∙ rw (
-        p,
-        length_at_lem,
-        part_get s modes_start (count_in s) k (omega arith) (omega arith),
-        part_at_lem s modes_start (count_in s) k (omega arith) (omega arith),
-        part_at_lem s (lengths_start (count_in s)) (count_in s) k (omega arith) (omega arith),
-        drop-drop,
-      )
+sum_next : (ls : List ℕ) (k : ℕ) → k < length ls → sum (take (suc k) ls) ≡ sum (take k ls) + get_or ls k 0
+unfolding sum
+sum_next [] k lt = absurd (omega arith)
+sum_next (l ∷ ls) zero lt = omega arith
+sum_next (l ∷ ls) (suc k) lt = let z = sum_next ls k (omega arith) in omega arith
 
-  pub standing_within : at + len + sum (drop (k + 1) (lengths_in s)) ≤ length s
-  standing_within = omega (arith, length_at_lem, sum_on s (lengths_start (count_in s)) (count_in s) k (omega arith) (omega arith))
+sum_within : (ls : List ℕ) (k : ℕ) → sum (take k ls) ≤ sum ls
+unfolding sum
+sum_within [] zero = omega arith
+sum_within [] (suc k) = omega arith
+sum_within (l ∷ ls) zero = omega arith
+sum_within (l ∷ ls) (suc k) = omega (arith, sum_within ls k)
 
-  pub standing_next : EntryWalk s count (k + 1) (at + len)
-  standing_next =
+sum_small : (ls : List ℕ) (k : ℕ) → AllBytes ls → sum (take k ls) ≤ 255 * k
+unfolding sum
+sum_small [] zero b = omega arith
+sum_small [] (suc k) b = omega arith
+sum_small (l ∷ ls) zero b = omega arith
+sum_small (l ∷ ls) (suc k) b = omega (arith, b 0, sum_small ls k (λ i. b (suc i)))
+
+-- no name begins so late that two bytes could not say where
+pub name_start_small : (s : List ℕ) (k : ℕ) → TableInBounds s → AllBytes s → k ≤ 64 → name_start_at s k < 65536
+name_start_small s k h b le =
+    omega (arith, h.few, sum_small (lengths_in s) k (bytes_at s (lengths_start (count_in s)) (count_in s) b))
+
+-- one entry more, k, of a table or a list
+module _ (s : List ℕ) (k : ℕ) (h : TableInBounds s) (lt : k < count_in s) where
+  lengths_count : length (lengths_in s) ≡ count_in s
+  lengths_count = length-take-le _ _ (simp length-drop (omega arith))
+
+  pub name_start_next : name_start_at s k + length_at s k ≡ name_start_at s (k + 1)
+  name_start_next = omega (arith, rw (← add-one) at (sum_next (lengths_in s) k (omega (arith, lengths_count))))
+
+  pub name_within : name_start_at s k + length_at s k ≤ length s
+  name_within = omega (arith, name_start_next, sum_within (lengths_in s) (k + 1), h.names)
+
+  -- entry k, whose name has as many bytes as its length says from where it begins
+  abbrev entry_at : Entry
+  entry_at = record { mode = get_or (modes_in s) k 0; name = take (length_at s k) (drop (name_start_at s k) s) }
+
+  entry_first : (ys : List Entry) × (drop k (entries_in s) ≡ entry_at ∷ ys)
+  unfolding entries_in entries_from
+  entry_first = (
+    entries_from (drop (suc k) (modes_in s)) (drop (suc k) (lengths_in s)) (drop (name_start_at s k + length_at s k) s),
+    rest_from (modes_in s) (lengths_in s) (name_bytes_in s) k
+        ∙ rw (
+          drop-cons (modes_in s) k 0 (omega (arith, length-take-le (count_in s) (drop modes_start s) (simp length-drop (omega arith)))),
+          drop-cons (lengths_in s) k 0 (omega (arith, lengths_count)),
+          drop-drop,
+          drop-drop,
+        ),
+  )
+
+  -- what the bytes from where its name begins say
+  pub name_here : {start len : ℕ} → start ≡ name_start_at s k → len ≡ length_at s k → len < 256 → NameAt s k start (take (start + len - start) (drop start s))
+  name_here {start} {len} p q few =
+      let (x, e) = entry_there s k h lt in
+      let (ys, f) = entry_first in
+      let z : start + len - start ≡ length_at s k = omega arith in
+      let fits : start + len ≤ length s = omega (arith, name_within) in
+      let n : length (take (start + len - start) (drop start s)) ≡ len = length-take-le _ _ (simp length-drop (omega arith)) ∙ omega arith in
       record {
-        in_bounds = h.in_bounds;
-        counted = h.counted;
-        fills = standing_within;
-        rest = sym (drop-drop 1 k (entries_in s)) ∙ ap (drop 1) rest_on;
+        entry = x;
+        here = e;
+        named = let w : x ≡ entry_at = cc in rw (w, z, p);
+        next = omega (arith, name_start_next);
+        within = omega arith;
+        small = omega arith;
       }
-
-  pub standing_here : drop k (entries_in s) ≡ entry_at s k at len ∷ drop (k + 1) (entries_in s)
-  standing_here = rest_on ∙ rw standing_next.rest

@@ -12,14 +12,14 @@ returns-then-a-b c = sym (same_not length c.if-a-b.true)
 pub loop-i-init : goal.loop-i-init
 loop-i-init c = (omega arith, refl)
 
-pub returns-then-read_u64 : goal.returns-then-read_u64
-returns-then-read_u64 c =
+pub returns-then-read : goal.returns-then-read
+returns-then-read c =
     let l = c.loop-i in
-    sym (same_not (λ s. le_at s l.i 8) (λ e. c.if-read_u64.true (c.read_u64.ensures ∙ e ∙ sym c.read_u64-in-loop-i.ensures)))
+    sym (same_not (λ s. le_at s l.i 8) (λ e. c.if-read.true (c.read.ensures.0 ∙ e ∙ sym c.read-in-loop-i.ensures.0)))
 
 pub loop-i-preserved : goal.loop-i-preserved
 loop-i-preserved c =
-    let e = sym c.read_u64.ensures ∙ c.if-read_u64.false ∙ c.read_u64-in-loop-i.ensures in (
+    let e = sym c.read.ensures.0 ∙ c.if-read.false ∙ c.read-in-loop-i.ensures.0 in (
       omega arith,
       sym (same_number c.loop-i.i 8 _ _ (λ j. omega (arith, c.type_inv.a j))
           (λ j. omega (arith, c.type_inv.b j)) (omega arith) (omega arith) e) ∙ c.loop-i.invariant.1,

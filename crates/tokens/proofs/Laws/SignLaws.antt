@@ -10,23 +10,24 @@ use native.Mathlib.Omega.{arith}
 use borrow.Author.Tests.{eqb-true, ne_eqb}
 use lib.Dec.{ltb, eqb}
 use lib.ListN.{length, get_or}
+use Rattle.std.specs.Prelude.{None, Some}
 use Rattle.slices.specs.Text.{bytes, part, run_end, other}
 use Rattle.ascii.specs.Letters.{equal_ignoring_case}
 use Rattle.classes.specs.Class.{class_of, of_class, blank, open_bracket, close_bracket, comma, ampersand, bar, quote, word}
-use Rattle.refusals.specs.Refusals.{refusal, half_sign}
+use Rattle.refusals.specs.Refusals.{refusal}
+use Rattle.refusals.specs.declared.Cause.TheVariants.{HalfSign}
 use Rattle.tokens.specs.declared.Token.{Token}
 use Rattle.tokens.specs.declared.Token.TheVariants.{Fault}
-use Rattle.tokens.specs.declared.Next.TheVariants.{Off, To}
 use Rattle.tokens.specs.Token.{doubled, quoted_to, quoted_at, unquoted_to, unquoted_at, token_of, token_at}
 use Rattle.tokens.specs.Inner.Bounds.{next_of_class}
 use Rattle.tokens.proofs.Laws.TokenLaws.{by_cond, at_end_lem, at_token}
 
 -- the token is not the one asked for
 abbrev Out : ℕ → Token → Type 0
-Out k t = next_of_class k t ≡ Off
+Out k t = next_of_class k t ≡ None
 
 -- another class than the one asked for
-apart : (k j n : ℕ) → (j ≡ k → ⊥) → cond (eqb k j) (To n) Off ≡ Off
+apart : (k j n : ℕ) → (j ≡ k → ⊥) → cond (eqb k j) (Some n) None ≡ None
 apart k j n h = rw (ne_eqb k j (λ e. h (sym e)))
 
 either_way : (k : ℕ) (v : Bool) (t u : Token) → next_of_class k (cond v t u) ≡ cond v (next_of_class k t) (next_of_class k u)
@@ -35,7 +36,7 @@ either_way k false t u = refl
 
 module _ (s : List ℕ) (p b : ℕ) where
   -- the first byte is of the class asked for
-  bracket_here : (k : ℕ) → open_bracket ≤ k → k ≤ comma → next_of_class k (token_of s p b k) ≡ To (p + 1)
+  bracket_here : (k : ℕ) → open_bracket ≤ k → k ≤ comma → next_of_class k (token_of s p b k) ≡ Some (p + 1)
   unfolding next_of_class token_of
   bracket_here zero l h = absurd (omega arith)
   bracket_here (suc zero) l h = refl
@@ -43,7 +44,7 @@ module _ (s : List ℕ) (p b : ℕ) where
   bracket_here (suc (suc (suc zero))) l h = refl
   bracket_here (suc (suc (suc (suc k)))) l h = absurd (omega arith)
 
-  sign_here : (k : ℕ) → ampersand ≤ k → k ≤ bar → next_of_class k (token_of s p b k) ≡ cond (doubled s p) (To (p + 2)) Off
+  sign_here : (k : ℕ) → ampersand ≤ k → k ≤ bar → next_of_class k (token_of s p b k) ≡ cond (doubled s p) (Some (p + 2)) None
   unfolding next_of_class token_of
   sign_here k l h =
       ⊎_elim
@@ -63,7 +64,7 @@ module _ (s : List ℕ) (p b : ℕ) where
   unfolding next_of_class quoted_at quoted_to
   quoted_off k = by_cond (Out k) (ltb (run_end (other b) s (p + 1)) (length s)) (λ _. refl) (λ _. refl)
 
-  sign_off : (k : ℕ) (t : Token) → Out k t → Out k (cond (doubled s p) t (Fault (refusal half_sign p)))
+  sign_off : (k : ℕ) (t : Token) → Out k t → Out k (cond (doubled s p) t (Fault (refusal HalfSign p)))
   unfolding next_of_class
   sign_off k t h = by_cond (Out k) (doubled s p) (λ _. h) (λ _. refl)
 
@@ -83,7 +84,7 @@ module _ (s : List ℕ) (p b : ℕ) where
 
 -- ---- after the next token, where the blanks before it end at p
 module _ (s : List ℕ) (at : ℕ) {p : ℕ} (e : p ≡ run_end (of_class blank) s at) (k : ℕ) where
-  pub behind_end : length s ≤ p → next_of_class k (token_at s at) ≡ Off
+  pub behind_end : length s ≤ p → next_of_class k (token_at s at) ≡ None
   unfolding next_of_class
   behind_end h = ap (next_of_class k) (at_end_lem s at e h)
 
@@ -92,18 +93,18 @@ module _ (s : List ℕ) (at : ℕ) {p : ℕ} (e : p ≡ run_end (of_class blank)
     token_here : next_of_class k (token_at s at) ≡ next_of_class k (token_of s p (get_or s p 0) f)
     token_here = ap (next_of_class k) (at_token s at e h (sym q))
 
-    pub behind_bracket : open_bracket ≤ k → k ≤ comma → f ≡ k → next_of_class k (token_at s at) ≡ To (p + 1)
+    pub behind_bracket : open_bracket ≤ k → k ≤ comma → f ≡ k → next_of_class k (token_at s at) ≡ Some (p + 1)
     behind_bracket l m i = token_here ∙ rw i (bracket_here s p (get_or s p 0) k l m)
 
-    pub behind_other : k ≤ comma → (f ≡ k → ⊥) → next_of_class k (token_at s at) ≡ Off
+    pub behind_other : k ≤ comma → (f ≡ k → ⊥) → next_of_class k (token_at s at) ≡ None
     behind_other m i = token_here ∙ off_here s p (get_or s p 0) k f i (λ _. unquoted_off s p (get_or s p 0) k m)
 
-    pub behind_sign : ampersand ≤ k → k ≤ bar → f ≡ k → next_of_class k (token_at s at) ≡ cond (doubled s p) (To (p + 2)) Off
+    pub behind_sign : ampersand ≤ k → k ≤ bar → f ≡ k → next_of_class k (token_at s at) ≡ cond (doubled s p) (Some (p + 2)) None
     behind_sign l m i = token_here ∙ rw i (sign_here s p (get_or s p 0) k l m)
 
     pub behind_word : f ≡ word → next_of_class k (token_at s at) ≡ next_of_class k (unquoted_at s p)
     unfolding token_of
     behind_word i = token_here ∙ rw i
 
-    pub behind_none : (f ≡ k → ⊥) → (f ≡ word → ⊥) → next_of_class k (token_at s at) ≡ Off
+    pub behind_none : (f ≡ k → ⊥) → (f ≡ word → ⊥) → next_of_class k (token_at s at) ≡ None
     behind_none i w = token_here ∙ off_here s p (get_or s p 0) k f i (λ j. absurd (w j))

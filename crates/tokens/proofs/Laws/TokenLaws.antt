@@ -9,17 +9,17 @@ use native.Mathlib.Omega.{arith}
 use borrow.Author.Tests.{lt-ltb, le-ltb, ltb-true, eqb-true}
 use lib.Dec.{ltb, eqb}
 use lib.ListN.{length, get_or}
+use Rattle.std.specs.Prelude.{Option, None, Some, Result, ⊤}
+use Rattle.refusals.specs.declared.Refusal.{Refusal}
 use Rattle.slices.specs.Text.{bytes, part, run_end, other}
 use Rattle.slices.proofs.Laws.TextLaws.{end_ge, end_le, end_on}
 use Rattle.ascii.specs.Letters.{equal_ignoring_case}
 use Rattle.classes.specs.Class.{class_of, of_class, blank, open_bracket, close_bracket, comma, ampersand, bar, quote, word}
 use Rattle.classes.proofs.Laws.ClassLaws.{of_class_lem}
-use Rattle.refusals.specs.Refusals.{refusal, half_sign}
+use Rattle.refusals.specs.Refusals.{refusal}
+use Rattle.refusals.specs.declared.Cause.TheVariants.{HalfSign}
 use Rattle.tokens.specs.declared.Token.{Token}
 use Rattle.tokens.specs.declared.Token.TheVariants.{End, Open, Close, Comma, And, Or, Word, Fault}
-use Rattle.tokens.specs.declared.Next.{Next}
-use Rattle.tokens.specs.declared.Next.TheVariants.{Off, To}
-use Rattle.tokens.specs.declared.Scanned.{Scanned}
 use Rattle.tokens.specs.Token.{doubled, quoted_to, quoted_at, unquoted_to, unquoted_at, token_of, start_at, token_at, next_of, onward, tokens_by, tokens_from, unless, scan_of}
 use Rattle.tokens.specs.Inner.Bounds.{Lexed, last_of}
 
@@ -40,7 +40,7 @@ by_cond P true f g = f refl
 by_cond P false f g = g refl
 
 module _ (s : List ℕ) (at p : ℕ) (from : at ≤ p) (in-text : p < length s) where
-  sign : (t : Token) → (p + 2 ≤ length s → Lexed (length s) at t) → Lexed (length s) at (cond (doubled s p) t (Fault (refusal half_sign p)))
+  sign : (t : Token) → (p + 2 ≤ length s → Lexed (length s) at t) → Lexed (length s) at (cond (doubled s p) t (Fault (refusal HalfSign p)))
   unfolding doubled
   sign t f =
       by_cond (Lexed (length s) at) (doubled s p)
@@ -86,7 +86,7 @@ lexed s at =
     (λ _. refl)
 
 -- where the text continues lies further on, and in the text
-next_on : (t : Token) {len at e : ℕ} → Lexed len at t → next_of t ≡ To e → (at < e) × (e ≤ len)
+next_on : (t : Token) {len at e : ℕ} → Lexed len at t → next_of t ≡ Some e → (at < e) × (e ≤ len)
 unfolding next_of
 next_on (End p) {len} {at} {e} l h = let z : ◌≡◌ {A = ℕ} 0 1 = cc in absurd (omega arith)
 next_on (Open p n) {len} {at} {e} l h = let q : n ≡ e = cc in omega arith
@@ -94,20 +94,20 @@ next_on (Close p n) {len} {at} {e} l h = let q : n ≡ e = cc in omega arith
 next_on (Comma p n) {len} {at} {e} l h = let q : n ≡ e = cc in omega arith
 next_on (And p n) {len} {at} {e} l h = let q : n ≡ e = cc in omega arith
 next_on (Or p n) {len} {at} {e} l h = let q : n ≡ e = cc in omega arith
-next_on (Word p a b v n) {len} {at} {e} l h = let q : n ≡ e = cc in omega arith
+next_on (Word w) {len} {at} {e} l h = let q : w.next ≡ e = cc in omega arith
 next_on (Fault f) {len} {at} {e} l h = let z : ◌≡◌ {A = ℕ} 0 1 = cc in absurd (omega arith)
 
-pub goes_on : (s : List ℕ) (at : ℕ) {e : ℕ} → next_of (token_at s at) ≡ To e → (at < e) × (e ≤ length s)
+pub goes_on : (s : List ℕ) (at : ℕ) {e : ℕ} → next_of (token_at s at) ≡ Some e → (at < e) × (e ≤ length s)
 goes_on s at h = next_on (token_at s at) (lexed s at) h
 
 -- ---- the list of tokens
-onward_same : (t : Token) (n : Next) (k l : ℕ → List Token) → ((e : ℕ) → n ≡ To e → k e ≡ l e) → onward t n k ≡ onward t n l
-onward_same t Off k l h = refl
-onward_same t (To e) k l h = ap (λ (ts : List Token). t ∷ ts) (h e refl)
+onward_same : (t : Token) (n : Option ℕ) (k l : ℕ → List Token) → ((e : ℕ) → n ≡ Some e → k e ≡ l e) → onward t n k ≡ onward t n l
+onward_same t None k l h = refl
+onward_same t (Some e) k l h = ap (λ (ts : List Token). t ∷ ts) (h e refl)
 
-onward_some : (t : Token) (n : Next) (k : ℕ → List Token) → 0 < length (onward t n k)
-onward_some t Off k = omega arith
-onward_some t (To e) k = omega arith
+onward_some : (t : Token) (n : Option ℕ) (k : ℕ → List Token) → 0 < length (onward t n k)
+onward_some t None k = omega arith
+onward_some t (Some e) k = omega arith
 
 -- with enough fuel the list does not depend on it
 fuel : (f g : ℕ) (s : List ℕ) (at : ℕ) → length s - at < f → length s - at < g → tokens_by f s at ≡ tokens_by g s at
@@ -131,22 +131,22 @@ pub tokens_are : (s : List ℕ) (at : ℕ) {t : Token} → token_at s at ≡ t �
 tokens_are s at h = tokens_at s at ∙ ap (λ (t : Token). onward t (next_of t) (tokens_from s)) h
 
 -- of a token after which the text continues
-pub tokens_on : (s : List ℕ) (at : ℕ) {e : ℕ} → next_of (token_at s at) ≡ To e → tokens_from s at ≡ token_at s at ∷ tokens_from s e
-tokens_on s at h = tokens_at s at ∙ ap (λ (n : Next). onward (token_at s at) n (tokens_from s)) h
+pub tokens_on : (s : List ℕ) (at : ℕ) {e : ℕ} → next_of (token_at s at) ≡ Some e → tokens_from s at ≡ token_at s at ∷ tokens_from s e
+tokens_on s at h = tokens_at s at ∙ ap (λ (n : Option ℕ). onward (token_at s at) n (tokens_from s)) h
 
 -- of one after which it does not
-pub tokens_end : (s : List ℕ) (at : ℕ) → next_of (token_at s at) ≡ Off → tokens_from s at ≡ token_at s at ∷ []
-tokens_end s at h = tokens_at s at ∙ ap (λ (n : Next). onward (token_at s at) n (tokens_from s)) h
+pub tokens_end : (s : List ℕ) (at : ℕ) → next_of (token_at s at) ≡ None → tokens_from s at ≡ token_at s at ∷ []
+tokens_end s at h = tokens_at s at ∙ ap (λ (n : Option ℕ). onward (token_at s at) n (tokens_from s)) h
 
 -- the tokens left fall by one with each token after which the text continues
-pub left_on : (s : List ℕ) (at : ℕ) {e : ℕ} → next_of (token_at s at) ≡ To e → length (tokens_from s at) ≡ length (tokens_from s e) + 1
+pub left_on : (s : List ℕ) (at : ℕ) {e : ℕ} → next_of (token_at s at) ≡ Some e → length (tokens_from s at) ≡ length (tokens_from s e) + 1
 left_on s at {e} h = ap length (tokens_on s at h) ∙ sym (add-one (length (tokens_from s e)))
 
 pub left_some : (s : List ℕ) (at : ℕ) → 0 < length (tokens_from s at)
 left_some s at = rw (tokens_at s at) (onward_some (token_at s at) (next_of (token_at s at)) (tokens_from s))
 
 -- ---- the first fault
-unless_on : (t : Token) (r : Scanned) {e : ℕ} → next_of t ≡ To e → unless t r ≡ r
+unless_on : (t : Token) (r : Result ⊤ Refusal) {e : ℕ} → next_of t ≡ Some e → unless t r ≡ r
 unfolding next_of
 unless_on (End p) r {e} h = refl
 unless_on (Open p n) r {e} h = refl
@@ -154,13 +154,13 @@ unless_on (Close p n) r {e} h = refl
 unless_on (Comma p n) r {e} h = refl
 unless_on (And p n) r {e} h = refl
 unless_on (Or p n) r {e} h = refl
-unless_on (Word p a b v n) r {e} h = refl
+unless_on (Word w) r {e} h = refl
 unless_on (Fault f) r {e} h = let z : ◌≡◌ {A = ℕ} 0 1 = cc in absurd (omega arith)
 
-pub scan_on : (s : List ℕ) (at : ℕ) {e : ℕ} → next_of (token_at s at) ≡ To e → scan_of (tokens_from s at) ≡ scan_of (tokens_from s e)
+pub scan_on : (s : List ℕ) (at : ℕ) {e : ℕ} → next_of (token_at s at) ≡ Some e → scan_of (tokens_from s at) ≡ scan_of (tokens_from s e)
 unfolding scan_of
 scan_on s at {e} h = ap scan_of (tokens_on s at h) ∙ unless_on (token_at s at) (scan_of (tokens_from s e)) h
 
-pub scan_end : (s : List ℕ) (at : ℕ) → next_of (token_at s at) ≡ Off → scan_of (tokens_from s at) ≡ last_of (token_at s at)
+pub scan_end : (s : List ℕ) (at : ℕ) → next_of (token_at s at) ≡ None → scan_of (tokens_from s at) ≡ last_of (token_at s at)
 unfolding scan_of
 scan_end s at h = ap scan_of (tokens_end s at h)

@@ -1,76 +1,77 @@
 -- `tokens::token_at` meets its contract: by the class of the first byte that is no blank. Assumes nothing.
-use mathlib.Core.Path.{◌≡◌, sym, ◌∙◌}
+use mathlib.Core.Path.{◌≡◌, refl, sym, ◌∙◌}
+use mathlib.Core.List.{List}
+use mathlib.Core.Logic.{◌≢◌}
 use Prim.Native.Nat.{ℕ}
 use native.Mathlib.Omega.{arith}
-use borrow.Author.Tests.{ne_eqb}
 use lib.ListN.{get_or}
+use Rattle.classes.specs.Class.{class_of}
+use Rattle.classes.specs.Inner.ClassNumber.{class_number}
+use Rattle.classes.specs.declared.Class.{Class}
+use Rattle.classes.specs.declared.Class.TheVariants.{Blank, Open, Close, Comma, Ampersand, Bar, Quote, Word, Foreign, Stray}
+use Rattle.refusals.specs.Refusals.{refusal}
+use Rattle.refusals.specs.declared.Cause.TheVariants.{StrayCharacter}
 use Rattle.tokens.specs.Token.{token_of, token_at}
+use Rattle.tokens.specs.declared.Token.TheVariants.{Fault}
 use Rattle.tokens.proofs.Laws.TokenLaws.{at_end_lem, at_token}
 use Rattle.tokens.proofs.token_at.Goals as goal
-use Rattle.tokens.proofs.token_at.Goals.{After-class_at}
+use Rattle.tokens.proofs.token_at.Goals.{After-class_of}
 
--- once the first byte's class has been looked up: the token is the one of that class
-here : (c : After-class_at) {k : ℕ} → c.class_at.result ≡ k →
-    let start = c.args in
+-- the token is the one of its first byte's class
+here : (c : After-class_of) {k : ℕ} → k ≡ class_of (get_or c.args.text.now c.class_end-place.result 0) →
     let p = c.class_end-place.result in
-    token_at start.text.now start.at ≡ token_of start.text.now p (get_or start.text.now p 0) k
-here c q = at_token _ _ c.class_end-place.ensures (omega arith) (sym c.class_at.ensures ∙ q)
+    token_of c.args.text.now p (get_or c.args.text.now p 0) k ≡ token_at c.args.text.now c.args.at
+here c q = sym (at_token _ _ c.class_end-place.ensures (omega arith) (sym q))
+
+-- a byte of no other class begins nothing
+stray_of : (s : List ℕ) (p b : ℕ) (k : Class) → k ≢ Open → k ≢ Close → k ≢ Comma → k ≢ Ampersand → k ≢ Bar → k ≢ Quote → k ≢ Word →
+    Fault (refusal StrayCharacter p) ≡ token_of s p b (class_number k)
+unfolding token_of
+stray_of s p b Blank o c m a r q w = refl
+stray_of s p b Open o c m a r q w = absurd (o refl)
+stray_of s p b Close o c m a r q w = absurd (c refl)
+stray_of s p b Comma o c m a r q w = absurd (m refl)
+stray_of s p b Ampersand o c m a r q w = absurd (a refl)
+stray_of s p b Bar o c m a r q w = absurd (r refl)
+stray_of s p b Quote o c m a r q w = absurd (q refl)
+stray_of s p b Word o c m a r q w = absurd (w refl)
+stray_of s p b Foreign o c m a r q w = refl
+stray_of s p b Stray o c m a r q w = refl
 
 pub returns-then-text-place : goal.returns-then-text-place
 returns-then-text-place c = sym (at_end_lem _ _ c.class_end-place.ensures (omega arith))
 
-pub returns-then-doubled_at : goal.returns-then-doubled_at
+pub returns-in-Open : goal.returns-in-Open
 unfolding token_of
-returns-then-doubled_at c =
-    sym (here (goal.at.returns-then-doubled_at c).After-class_at c.in-4.is ∙ simp (sym c.doubled_at.ensures ∙ c.if-doubled_at.true))
+returns-in-Open c = here (goal.at.returns-in-Open c).After-class_of c.in-Open.ensures
 
-pub returns-then-doubled_at-2 : goal.returns-then-doubled_at-2
+pub returns-in-Close : goal.returns-in-Close
 unfolding token_of
-returns-then-doubled_at-2 c =
-    sym (here (goal.at.returns-then-doubled_at-2 c).After-class_at c.in-5.is ∙ simp (sym c.doubled_at-in-5.ensures ∙ c.if-doubled_at-2.true))
+returns-in-Close c = here (goal.at.returns-in-Close c).After-class_of c.in-Close.ensures
 
-pub returns-in-1 : goal.returns-in-1
+pub returns-in-Comma : goal.returns-in-Comma
 unfolding token_of
-returns-in-1 c = sym (here (goal.at.returns-in-1 c).After-class_at c.in-1.is)
+returns-in-Comma c = here (goal.at.returns-in-Comma c).After-class_of c.in-Comma.ensures
 
-pub returns-in-2 : goal.returns-in-2
+pub returns-in-Ampersand : goal.returns-in-Ampersand
 unfolding token_of
-returns-in-2 c = sym (here (goal.at.returns-in-2 c).After-class_at c.in-2.is)
+returns-in-Ampersand c = c.sign_at.ensures ∙ here (goal.at.returns-in-Ampersand c).After-class_of c.in-Ampersand.ensures
 
-pub returns-in-3 : goal.returns-in-3
+pub returns-in-Bar : goal.returns-in-Bar
 unfolding token_of
-returns-in-3 c = sym (here (goal.at.returns-in-3 c).After-class_at c.in-3.is)
+returns-in-Bar c = c.sign_at-in-Bar.ensures ∙ here (goal.at.returns-in-Bar c).After-class_of c.in-Bar.ensures
 
-pub returns-else-doubled_at : goal.returns-else-doubled_at
+pub returns-in-Quote : goal.returns-in-Quote
 unfolding token_of
-returns-else-doubled_at c =
-    c.half_sign.ensures ∙ sym (here (goal.at.returns-else-doubled_at c).After-class_at c.in-4.is ∙ simp (sym c.doubled_at.ensures ∙ c.if-doubled_at.false))
+returns-in-Quote c = c.quoted_at.ensures ∙ here (goal.at.returns-in-Quote c).After-class_of c.in-Quote.ensures
 
-pub returns-else-doubled_at-2 : goal.returns-else-doubled_at-2
+pub returns-in-Word : goal.returns-in-Word
 unfolding token_of
-returns-else-doubled_at-2 c =
-    c.half_sign-in-5.ensures ∙ sym (here (goal.at.returns-else-doubled_at-2 c).After-class_at c.in-5.is ∙ simp (sym c.doubled_at-in-5.ensures ∙ c.if-doubled_at-2.false))
-
-pub returns-in-6 : goal.returns-in-6
-unfolding token_of
-returns-in-6 c = c.quoted_at.ensures ∙ sym (here (goal.at.returns-in-6 c).After-class_at c.in-6.is)
-
-pub returns-in-7 : goal.returns-in-7
-unfolding token_of
-returns-in-7 c = c.unquoted_at.ensures ∙ sym (here (goal.at.returns-in-7 c).After-class_at c.in-7.is)
+returns-in-Word c = c.unquoted_at.ensures ∙ here (goal.at.returns-in-Word c).After-class_of c.in-Word.ensures
 
 pub returns-in_default : goal.returns-in_default
-unfolding token_of
 returns-in_default c =
-    let r = c.in_default.in_default-own.rest in
-    sym
-    (at_token _ _ c.class_end-place.ensures (omega arith) (sym c.class_at.ensures) ∙
-    simp (
-      ne_eqb _ _ r.0.0.0.0.0.0.1,
-      ne_eqb _ _ r.0.0.0.0.0.1,
-      ne_eqb _ _ r.0.0.0.0.1,
-      ne_eqb _ _ r.0.0.0.1,
-      ne_eqb _ _ r.0.0.1,
-      ne_eqb _ _ r.0.1,
-      ne_eqb _ _ r.1,
-    ))
+    let d = c.in_default in
+    rw c.at.ensures
+    (stray_of _ _ _ c.class_of.result d.not-Open d.not-Close d.not-Comma d.not-Ampersand d.not-Bar d.not-Quote d.not-Word ∙
+    here (goal.at.returns-in_default c).After-class_of c.class_of.ensures)

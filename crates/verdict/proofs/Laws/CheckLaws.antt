@@ -8,7 +8,9 @@ use borrow.Author.Tests.{le-leb}
 use lib.Dec.{leb}
 use lib.ListN.{length, take, drop, length-append}
 use lib.Seq.{take-append_seam}
-use Rattle.refusals.specs.Refusals.{refusal, bad_image, bad_store_table, twin_name, unknown_store, unconfirmed, archive_only}
+use Rattle.refusals.specs.declared.Refusal.{Refusal}
+use Rattle.refusals.specs.Refusals.{refusal}
+use Rattle.refusals.specs.declared.Cause.TheVariants.{BadImage, BadStoreTable, TwinName, UnknownStore, Unconfirmed, ArchiveOnly}
 use Rattle.rules.specs.Rule.{Rule, size}
 use Rattle.image.specs.Layout.{node_count_in}
 use Rattle.image.specs.Encode.{encode}
@@ -19,19 +21,16 @@ use Rattle.image.specs.Inner.EncodedAt.{EncodedAt}
 use Rattle.grammar.specs.Reading.{Read, rule, refused, read_of}
 use Rattle.grammar.proofs.Laws.FitsLaws.{read_decodes}
 use Rattle.read.specs.Outcome.{ReadOutcome, outcome, reading_of}
-use Rattle.read.specs.declared.Reading.{Reading}
-use Rattle.read.specs.declared.Reading.TheVariants.{Read as Written}
 use Rattle.store_table.specs.Stores.{Entry, is_table, count_in, entries_in, write_only_names, twin_of}
 use Rattle.store_table.proofs.Laws.StoresLaws.{well_made_in_bounds}
 use Rattle.store_table.proofs.Laws.WalkLaws.{length_entries}
-use Rattle.store_table.specs.declared.Twin.TheVariants.{No as NoTwin, At as Twinned}
+use Rattle.std.specs.Prelude.{None, Option, Some, Result, Err, Ok}
 use Rattle.evaluate.specs.Evict.{env_of, evict}
+use Rattle.decide.specs.Inner.StoresTest.{stores_test}
+use Rattle.decide.proofs.Laws.TestsLaws.{tests_refuse}
 use Rattle.image.proofs.Laws.InsideLaws.{decode_whole}
 use Rattle.verdict.specs.Check.{oldest, evicts_unconfirmed, evicts_on_archive, verdict, unknown_in, check_stores, check_rule, check_of}
-use Rattle.verdict.specs.declared.Unknown.{Unknown}
-use Rattle.verdict.specs.declared.Unknown.TheVariants.{No, At}
-use Rattle.verdict.specs.declared.Verdict.{Verdict}
-use Rattle.verdict.specs.declared.Verdict.TheVariants.{Pass, Refused}
+use Rattle.verdict.specs.Verdict.{Verdict}
 use Rattle.verdict.specs.Inner.Grades.{WithStores}
 
 -- where 21 is not the answer, 22 is tested without a look at whether there are write-only stores
@@ -46,27 +45,31 @@ archived_by r es e = go (write_only_names es)
 
 -- of a rule r and bytes s: 17, 18, no stores
 module _ (r : Rule) (s : List ℕ) where
-  pub refused_17 : is_table s ≡ false → Refused (refusal bad_store_table 0) ≡ check_rule r s
+  pub refused_17 : is_table s ≡ false → Err (refusal BadStoreTable 0) ≡ check_rule r s
   unfolding check_rule
   refused_17 e = rw e
 
-  pub refused_18 : {i : ℕ} → is_table s ≡ true → twin_of (entries_in s) ≡ Twinned i → Refused (refusal twin_name i) ≡ check_rule r s
+  pub refused_18 : {i : ℕ} → is_table s ≡ true → twin_of (entries_in s) ≡ Some i → Err (refusal TwinName i) ≡ check_rule r s
   unfolding check_rule
   refused_18 table e = rw (table, e)
 
-  by_stores : is_table s ≡ true → twin_of (entries_in s) ≡ NoTwin → check_stores r (entries_in s) ≡ check_rule r s
+  pub refused_stores : {f : Refusal} → stores_test s ≡ Some f → Err f ≡ check_rule r s
+  unfolding check_rule
+  refused_stores e = tests_refuse s Err [] (check_stores r (entries_in s)) e
+
+  by_stores : is_table s ≡ true → twin_of (entries_in s) ≡ None → check_stores r (entries_in s) ≡ check_rule r s
   unfolding check_rule
   by_stores table no_twin = rw (table, no_twin)
 
-  pub passed_none : is_table s ≡ true → twin_of (entries_in s) ≡ NoTwin → count_in s ≡ 0 → Pass ≡ check_rule r s
+  pub passed_none : is_table s ≡ true → twin_of (entries_in s) ≡ None → count_in s ≡ 0 → Ok tt ≡ check_rule r s
   passed_none table no_twin e = go (entries_in s) (length_entries s (well_made_in_bounds _ s table)) ∙ by_stores table no_twin
     where
-      go : (es : List Entry) → length es ≡ count_in s → Pass ≡ check_stores r es
+      go : (es : List Entry) → length es ≡ count_in s → Ok tt ≡ check_stores r es
       go [] q = refl
       go (x ∷ es) q = absurd (omega arith)
 
   -- 20: there are stores, and u is what a look for unknown names found
-  module _ (h : WithStores s) {u : Unknown} (found : u ≡ unknown_in (entries_in s) r 0) where
+  module _ (h : WithStores s) {u : Option ℕ} (found : u ≡ unknown_in (entries_in s) r 0) where
     pub by_tests : verdict u (evicts_unconfirmed r (entries_in s)) (evicts_on_archive r (entries_in s)) ≡ check_rule r s
     by_tests = rw found (go (entries_in s) (length_entries s (well_made_in_bounds _ s h.table))) ∙ by_stores h.table h.no_twin
       where
@@ -74,28 +77,28 @@ module _ (r : Rule) (s : List ℕ) where
         go [] q = absurd (h.stored (sym q))
         go (x ∷ es) q = refl
 
-    pub refused_20 : {i : ℕ} → u ≡ At i → Refused (refusal unknown_store i) ≡ check_rule r s
+    pub refused_20 : {i : ℕ} → u ≡ Some i → Err (refusal UnknownStore i) ≡ check_rule r s
     refused_20 e = rw e at by_tests
 
     -- 21: there is none, and b is what the rule says with nothing confirmed
-    module _ (known : u ≡ No) {b : Bool} (says : b ≡ evicts_unconfirmed r (entries_in s)) where
-      pub refused_21 : b ≡ true → Refused (refusal unconfirmed 0) ≡ check_rule r s
+    module _ (known : u ≡ None) {b : Bool} (says : b ≡ evicts_unconfirmed r (entries_in s)) where
+      pub refused_21 : b ≡ true → Err (refusal Unconfirmed 0) ≡ check_rule r s
       refused_21 e = rw (known, ← says, e) at by_tests
 
       -- 22 or a pass: b is keep, and a is what the rule says with the write-only stores confirmed
       module _ (keeps : b ≡ false) {a : Bool} (also : a ≡ evict r (env_of (entries_in s) oldest (write_only_names (entries_in s)))) where
-        by_archived : verdict No false a ≡ check_rule r s
+        by_archived : verdict None false a ≡ check_rule r s
         by_archived = rw (known, archived_by r (entries_in s) (sym says ∙ keeps), ← says, keeps, ← also) at by_tests
 
-        pub refused_22 : a ≡ true → Refused (refusal archive_only 0) ≡ check_rule r s
+        pub refused_22 : a ≡ true → Err (refusal ArchiveOnly 0) ≡ check_rule r s
         refused_22 e = rw e at by_archived
 
-        pub passed : a ≡ false → Pass ≡ check_rule r s
+        pub passed : a ≡ false → Ok tt ≡ check_rule r s
         passed e = rw e at by_archived
 
 -- ---- checking an image i
 module _ (i : List ℕ) where
-  pub refused_16 : (s : List ℕ) → is_some (decode i) ≡ false → Refused (refusal bad_image 0) ≡ check_of i s
+  pub refused_16 : (s : List ℕ) → is_some (decode i) ≡ false → Err (refusal BadImage 0) ≡ check_of i s
   unfolding check_of
   refused_16 s e = rw (is_some_false (decode i) e)
 
@@ -110,8 +113,8 @@ module _ (i : List ℕ) where
         rw e (h r w.sized w.stands)
 
 -- ---- what reading writes into a buffer is an image, and lies within the buffer
-pub written_image : (text buffer : List ℕ) {a : Reading} {n : ℕ} {image : List ℕ} →
-    outcome a image ≡ reading_of (read_of text) buffer → a ≡ Written n → (n ≤ length image) × (is_some (decode (take n image)) ≡ true)
+pub written_image : (text buffer : List ℕ) {a : Result ℕ Refusal} {n : ℕ} {image : List ℕ} →
+    outcome a image ≡ reading_of (read_of text) buffer → a ≡ Ok n → (n ≤ length image) × (is_some (decode (take n image)) ≡ true)
 written_image text buffer {a} {n} {image} e is = go (read_of text) refl e
   where
     go : (x : Read) → read_of text ≡ x → outcome a image ≡ reading_of x buffer → (n ≤ length image) × (is_some (decode (take n image)) ≡ true)
@@ -119,4 +122,4 @@ written_image text buffer {a} {n} {image} e is = go (read_of text) refl e
         let long : n ≡ length (encode r) = cc (ap (λ (x : ReadOutcome). x.answer) o) in
         let left : image ≡ encode r ++ drop (length (encode r)) buffer = ap (λ (x : ReadOutcome). x.image) o in
         (rw left (simp length-append (omega arith)), rw (long, left, take-append_seam, read_decodes text r q))
-    go (refused f) q o = let z : ◌≡◌ {A = ℕ} 0 1 = cc (ap (λ (x : ReadOutcome). x.answer) o) in absurd (omega arith)
+    go (refused f) q o = absurd (cc (ap (λ (x : ReadOutcome). x.answer) o))

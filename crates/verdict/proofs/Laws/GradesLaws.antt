@@ -17,7 +17,7 @@ use Rattle.store_table.specs.Names.{has}
 use Rattle.store_table.specs.Stores.{Entry, read_only, write_only, is_readable, write_only_names, ready_count, twin_of}
 use Rattle.store_table.proofs.Laws.MemberLaws.{has_mem, mem_has}
 use Rattle.store_table.proofs.Laws.EntryLaws.{write_only_entry, entry_write_only, one_of_name, ready_or_none}
-use Rattle.store_table.specs.declared.Twin.TheVariants.{No as NoTwin}
+use Rattle.std.specs.Prelude.{None}
 use Rattle.evaluate.specs.Evict.{Env, env_of, leaf_says}
 use Rattle.evaluate.proofs.Laws.MeaningLaws.{says_named, says_older, says_readable}
 use Rattle.evaluate.proofs.Laws.MonotoneLaws.{both_ways}
@@ -36,7 +36,7 @@ unfolding has
 none_has w = refl
 
 -- ---- of stores of which no two share a name
-module _ (es : List Entry) (no_twin : twin_of es ≡ NoTwin) where
+module _ (es : List Entry) (no_twin : twin_of es ≡ None) where
   -- a store's name is a write-only store's exactly where its mode is write-only
   write_only_has : (x : Entry) → Memᴰ x es → has x.name (write_only_names es) ≡ eqb x.mode write_only
   write_only_has x m = both_ways to from

@@ -14,15 +14,15 @@ use Rattle.grammar.proofs.Laws.FitsLaws.{read_decodes}
 use Rattle.grammar.proofs.Laws.NumberLaws.{read_number}
 use Rattle.read.specs.Outcome.{outcome, reading_of, read_into}
 use Rattle.read.proofs.Laws.BufferLaws.{reads}
-use Rattle.read.specs.declared.Reading.{Reading}
 use Rattle.store_table.specs.Stores.{entries_in}
 use Rattle.store_table.proofs.Laws.DistinctLaws.{no_twin_distinct}
 use Rattle.decide.proofs.Laws.ReadDecideLaws.{decide_read_says}
 use Rattle.verdict.specs.Check.{check_decoded, check_of, judge_read, judge_of}
 use Rattle.verdict.specs.Guarantee.{Checked, bytes_written, then_check, Judged}
 use Rattle.verdict.proofs.Laws.SafetyLaws.{guaranteed, number_of}
-use Rattle.verdict.specs.declared.Verdict.{Verdict}
-use Rattle.verdict.specs.declared.Verdict.TheVariants.{Pass}
+use Rattle.std.specs.Prelude.{Result, Ok}
+use Rattle.refusals.specs.declared.Refusal.{Refusal}
+use Rattle.verdict.specs.Verdict.{Verdict}
 
 -- ---- images
 module _ (image s : List ℕ) where
@@ -36,7 +36,7 @@ module _ (image s : List ℕ) where
     broken = λ e. check_decoded_lem e;
   }
     where
-      held : (o : Option Rule) → decode image ≡ o → check_of image s ≡ Pass → (r : Rule) × (decode image ≡ some r)
+      held : (o : Option Rule) → decode image ≡ o → check_of image s ≡ Ok tt → (r : Rule) × (decode image ≡ some r)
       held none e p = absurd (omega (arith, ap number_of (sym (check_decoded_lem e) ∙ p)))
       held (some r) e p = (r, e)
 
@@ -58,7 +58,7 @@ module _ (text s : List ℕ) where
     read_then_check (refused f) e = judge_read_lem e
 
     -- judging is reading into a buffer, and then checking
-    pub judges : {a b : Reading} {image : List ℕ} → outcome a image ≡ reading_of (read_of text) buffer → a ≡ b → then_check b image s ≡ judge_of text s
+    pub judges : {a b : Result ℕ Refusal} {image : List ℕ} → outcome a image ≡ reading_of (read_of text) buffer → a ≡ b → then_check b image s ≡ judge_of text s
     judges e q = sym (rw (← e, q) at (read_then_check (read_of text) refl))
 
   pub judged : Judged text s (judge_of text s)
@@ -71,7 +71,7 @@ module _ (text s : List ℕ) where
     read_check = λ buffer room. rw (reads text buffer room refl) (read_then_check buffer (read_of text) refl);
   }
     where
-      held : (x : Read) → read_of text ≡ x → judge_of text s ≡ Pass → (r : Rule) × (read_of text ≡ rule r)
+      held : (x : Read) → read_of text ≡ x → judge_of text s ≡ Ok tt → (r : Rule) × (read_of text ≡ rule r)
       held (rule r) e p = (r, e)
       held (refused f) e p = absurd (omega (arith, read_number text f e, ap number_of (sym (judge_read_lem e) ∙ p)))
 

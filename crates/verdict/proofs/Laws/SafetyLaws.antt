@@ -7,12 +7,13 @@ use mathlib.Core.Logic.{◌↔◌, ◌⊎◌, inl, inr, ⊎_elim}
 use Prim.Native.Nat.{ℕ, ◌≤◌}
 use native.Mathlib.Omega.{arith}
 use borrow.Author.Tests.{leb-false}
-use Rattle.refusals.specs.Refusals.{refusal, unknown_store, unconfirmed, archive_only}
+use Rattle.refusals.specs.Refusals.{refusal, number}
+use Rattle.refusals.specs.declared.Cause.TheVariants.{UnknownStore, Unconfirmed, ArchiveOnly}
 use Rattle.rules.specs.Rule.{Rule}
 use Rattle.store_table.specs.Names.{has}
 use Rattle.store_table.specs.Stores.{is_readable, entries_in, twin_of, read_only, write_only, all_names, write_only_names}
 use Rattle.store_table.proofs.Laws.MemberLaws.{has_mem, mem_has}
-use Rattle.store_table.specs.declared.Twin.TheVariants.{No as NoTwin}
+use Rattle.std.specs.Prelude.{None, Option, Some, Err, Ok}
 use Rattle.store_table.proofs.Laws.DistinctLaws.{no_twin_distinct}
 use Rattle.store_table.proofs.Laws.EntryLaws.{entry_mode, name_entry, entry_named, OneReady, NoneReady, ready_or_none}
 use Rattle.evaluate.specs.Evict.{env_of, evict}
@@ -24,34 +25,31 @@ use Rattle.verdict.proofs.Laws.CheckLaws.{archived_by, by_tests}
 use Rattle.verdict.proofs.Laws.GradesLaws.{write_only_unready}
 use Rattle.verdict.proofs.Laws.KnownLaws.{unknown_no, no_unknown}
 use Rattle.verdict.proofs.Laws.ListsLaws.{has_named, write_only_mem, nothing_same, write_only_same, nothing_is, write_only_is}
-use Rattle.verdict.specs.declared.Unknown.{Unknown}
-use Rattle.verdict.specs.declared.Unknown.TheVariants.{No, At}
-use Rattle.verdict.specs.declared.Verdict.{Verdict}
-use Rattle.verdict.specs.declared.Verdict.TheVariants.{Pass, Refused}
+use Rattle.verdict.specs.Verdict.{Verdict}
 
 -- ---- a verdict, by its three tests
 -- the number of a refusal, 0 for a pass
 abbrev pub number_of : Verdict → ℕ
-number_of Pass = 0
-number_of (Refused f) = f.number
+number_of (Ok u) = 0
+number_of (Err f) = number f.cause
 
-verdict_pass : (u : Unknown) (b a : Bool) → verdict u b a ≡ Pass → (u ≡ No) × (b ≡ false) × (a ≡ false)
-verdict_pass (At i) b a e = absurd (omega (arith, ap number_of e))
-verdict_pass No true a e = absurd (omega (arith, ap number_of e))
-verdict_pass No false true e = absurd (omega (arith, ap number_of e))
-verdict_pass No false false e = (refl, refl, refl)
+verdict_pass : (u : Option ℕ) (b a : Bool) → verdict u b a ≡ Ok tt → (u ≡ None) × (b ≡ false) × (a ≡ false)
+verdict_pass (Some i) b a e = absurd (omega (arith, ap number_of e))
+verdict_pass None true a e = absurd (omega (arith, ap number_of e))
+verdict_pass None false true e = absurd (omega (arith, ap number_of e))
+verdict_pass None false false e = (refl, refl, refl)
 
-verdict_known : (b a : Bool) → (verdict No b a ≡ Pass) ⊎ (verdict No b a ≡ Refused (refusal unconfirmed 0)) ⊎ (verdict No b a ≡ Refused (refusal archive_only 0))
+verdict_known : (b a : Bool) → (verdict None b a ≡ Ok tt) ⊎ (verdict None b a ≡ Err (refusal Unconfirmed 0)) ⊎ (verdict None b a ≡ Err (refusal ArchiveOnly 0))
 verdict_known true a = inr (inl refl)
 verdict_known false true = inr (inr refl)
 verdict_known false false = inl refl
 
-verdict_21 : (b a : Bool) → (verdict No b a ≡ Refused (refusal unconfirmed 0)) ↔ (b ≡ true)
+verdict_21 : (b a : Bool) → (verdict None b a ≡ Err (refusal Unconfirmed 0)) ↔ (b ≡ true)
 verdict_21 true a = (λ d. refl, λ d. refl)
 verdict_21 false true = (λ d. absurd (omega (arith, ap number_of d)), λ d. absurd (false≢true d))
 verdict_21 false false = (λ d. absurd (omega (arith, ap number_of d)), λ d. absurd (false≢true d))
 
-verdict_22 : (b a : Bool) → (verdict No b a ≡ Refused (refusal archive_only 0)) ↔ ((b ≡ false) × (a ≡ true))
+verdict_22 : (b a : Bool) → (verdict None b a ≡ Err (refusal ArchiveOnly 0)) ↔ ((b ≡ false) × (a ≡ true))
 verdict_22 true a = (λ d. absurd (omega (arith, ap number_of d)), λ d. absurd (true≢false d.0))
 verdict_22 false true = (λ d. (refl, refl), λ d. refl)
 verdict_22 false false = (λ d. absurd (omega (arith, ap number_of d)), λ d. absurd (false≢true d.1))
@@ -67,20 +65,20 @@ unreadable_mode {mode} le e = omega (arith, leb-false mode read_only e)
 
 -- ---- a table with at least one store and no name twice
 module _ {s : List ℕ} (t : Table s) (r : Rule) where
-  no_twin : twin_of (entries_in s) ≡ NoTwin
+  no_twin : twin_of (entries_in s) ≡ None
   no_twin = (no_twin_distinct (entries_in s)).1 t.distinct
 
   -- check's answer is the verdict of the three tests
   check_verdict : check_rule r s ≡ verdict (unknown_in (entries_in s) r 0) (evicts_unconfirmed r (entries_in s)) (evicts_on_archive r (entries_in s))
   check_verdict = sym (by_tests r s (record { table = t.made; no_twin = no_twin; stored = λ e. omega (arith, t.stored) }) refl)
 
-  known_no : Known r s → unknown_in (entries_in s) r 0 ≡ No
+  known_no : Known r s → unknown_in (entries_in s) r 0 ≡ None
   known_no k = no_unknown (entries_in s) r 0 (λ w m. stored w (k w m))
     where
       stored : (w : List ℕ) → Named w s → has w (all_names (entries_in s)) ≡ true
       stored w (e, m, p) = rw p at (mem_has (entry_named e (entries_in s) m))
 
-  no_known : unknown_in (entries_in s) r 0 ≡ No → Known r s
+  no_known : unknown_in (entries_in s) r 0 ≡ None → Known r s
   no_known e w m =
       let (x, at, p) = name_entry w (entries_in s) (has_mem w (all_names (entries_in s)) (unknown_no (entries_in s) r 0 e w m)) in
       (x, at, p)
@@ -131,57 +129,57 @@ module _ {s : List ℕ} (t : Table s) (r : Rule) where
       by false e = refl
 
   -- ---- the guarantee
-  pub rule_passes : (check_rule r s ≡ Pass) ↔ (Known r s × Safe r s)
+  pub rule_passes : (check_rule r s ≡ Ok tt) ↔ (Known r s × Safe r s)
   rule_passes = rw check_verdict (to, from)
     where
-      to : verdict (unknown_in (entries_in s) r 0) (evicts_unconfirmed r (entries_in s)) (evicts_on_archive r (entries_in s)) ≡ Pass → Known r s × Safe r s
+      to : verdict (unknown_in (entries_in s) r 0) (evicts_unconfirmed r (entries_in s)) (evicts_on_archive r (entries_in s)) ≡ Ok tt → Known r s × Safe r s
       to e =
           let (u, b, a) = verdict_pass (unknown_in (entries_in s) r 0) (evicts_unconfirmed r (entries_in s)) (evicts_on_archive r (entries_in s)) e in
           let k = no_known u in
           (k, to_safe k (sym (archived_by r (entries_in s) b) ∙ a))
 
-      from : Known r s × Safe r s → verdict (unknown_in (entries_in s) r 0) (evicts_unconfirmed r (entries_in s)) (evicts_on_archive r (entries_in s)) ≡ Pass
+      from : Known r s × Safe r s → verdict (unknown_in (entries_in s) r 0) (evicts_unconfirmed r (entries_in s)) (evicts_on_archive r (entries_in s)) ≡ Ok tt
       from (k, safe) =
           let b = safe_bare safe in
           rw (known_no k, archived_by r (entries_in s) b, b, safe_archive safe)
 
   module _ (known : Known r s) where
-    check_known : check_rule r s ≡ verdict No (evicts_unconfirmed r (entries_in s)) (evicts_on_archive r (entries_in s))
+    check_known : check_rule r s ≡ verdict None (evicts_unconfirmed r (entries_in s)) (evicts_on_archive r (entries_in s))
     check_known = check_verdict ∙ rw (known_no known)
 
-    pub rule_answers : (check_rule r s ≡ Pass) ⊎ (check_rule r s ≡ Refused (refusal unconfirmed 0)) ⊎ (check_rule r s ≡ Refused (refusal archive_only 0))
+    pub rule_answers : (check_rule r s ≡ Ok tt) ⊎ (check_rule r s ≡ Err (refusal Unconfirmed 0)) ⊎ (check_rule r s ≡ Err (refusal ArchiveOnly 0))
     rule_answers = rw check_known (verdict_known (evicts_unconfirmed r (entries_in s)) (evicts_on_archive r (entries_in s)))
 
-    pub rule_21 : (l : List ℕ) → Nothing l → (check_rule r s ≡ Refused (refusal unconfirmed 0)) ↔ Evicts r s oldest l
+    pub rule_21 : (l : List ℕ) → Nothing l → (check_rule r s ≡ Err (refusal Unconfirmed 0)) ↔ Evicts r s oldest l
     rule_21 l n = rw (check_known, nothing_same r s oldest l n) (verdict_21 (evicts_unconfirmed r (entries_in s)) (evicts_on_archive r (entries_in s)))
 
     pub rule_22 : (l k : List ℕ) → Nothing l → JustWriteOnly s k →
-        (check_rule r s ≡ Refused (refusal archive_only 0)) ↔ ((Evicts r s oldest l → ⊥) × Evicts r s oldest k)
+        (check_rule r s ≡ Err (refusal ArchiveOnly 0)) ↔ ((Evicts r s oldest l → ⊥) × Evicts r s oldest k)
     rule_22 l k n j = rw (check_known, nothing_same r s oldest l n, write_only_same r s oldest k j) (to, from)
       where
-        to : verdict No (evicts_unconfirmed r (entries_in s)) (evicts_on_archive r (entries_in s)) ≡ Refused (refusal archive_only 0) →
+        to : verdict None (evicts_unconfirmed r (entries_in s)) (evicts_on_archive r (entries_in s)) ≡ Err (refusal ArchiveOnly 0) →
             (evicts_unconfirmed r (entries_in s) ≡ true → ⊥) × (evict r (env_of (entries_in s) oldest (write_only_names (entries_in s))) ≡ true)
         to e =
             let (b, a) = (verdict_22 (evicts_unconfirmed r (entries_in s)) (evicts_on_archive r (entries_in s))).0 e in
             (λ d. true≢false (sym d ∙ b), sym (archived_by r (entries_in s) b) ∙ a)
 
         from : (evicts_unconfirmed r (entries_in s) ≡ true → ⊥) × (evict r (env_of (entries_in s) oldest (write_only_names (entries_in s))) ≡ true) →
-            verdict No (evicts_unconfirmed r (entries_in s)) (evicts_on_archive r (entries_in s)) ≡ Refused (refusal archive_only 0)
+            verdict None (evicts_unconfirmed r (entries_in s)) (evicts_on_archive r (entries_in s)) ≡ Err (refusal ArchiveOnly 0)
         from (keeps, a) =
             let b = false_of (evicts_unconfirmed r (entries_in s)) keeps in
             (verdict_22 (evicts_unconfirmed r (entries_in s)) (evicts_on_archive r (entries_in s))).1 (b, archived_by r (entries_in s) b ∙ a)
 
-  pub rule_20 : (Known r s → ⊥) → (i : ℕ) × (check_rule r s ≡ Refused (refusal unknown_store i))
+  pub rule_20 : (Known r s → ⊥) → (i : ℕ) × (check_rule r s ≡ Err (refusal UnknownStore i))
   rule_20 unknown = rw check_verdict (by (unknown_in (entries_in s) r 0) refl)
     where
-      by : (u : Unknown) → unknown_in (entries_in s) r 0 ≡ u →
-          (i : ℕ) × (verdict u (evicts_unconfirmed r (entries_in s)) (evicts_on_archive r (entries_in s)) ≡ Refused (refusal unknown_store i))
-      by No e = absurd (unknown (no_known e))
-      by (At i) e = (i, refl)
+      by : (u : Option ℕ) → unknown_in (entries_in s) r 0 ≡ u →
+          (i : ℕ) × (verdict u (evicts_unconfirmed r (entries_in s)) (evicts_on_archive r (entries_in s)) ≡ Err (refusal UnknownStore i))
+      by None e = absurd (unknown (no_known e))
+      by (Some i) e = (i, refl)
 
 -- what may hold a rule, where the verdict on it is check's on the rule, and a pass only where it holds one
 pub guaranteed : (Holds : Rule → Type 0) {s : List ℕ} {v : Verdict} → Table s → ((r : Rule) → Holds r → v ≡ check_rule r s) →
-    (v ≡ Pass → (r : Rule) × Holds r) → Guarantee Holds s v
+    (v ≡ Ok tt → (r : Rule) × Holds r) → Guarantee Holds s v
 guaranteed Holds {s} {v} t says held =
     record {
       passes = (

@@ -1,9 +1,8 @@
 -- Grades of leaves: what 21 and 22 ask of each, in one number. What checking answers depends on none of this. Assumes nothing.
-use Rattle.std.specs.Prelude.{ℕ, ◌<◌, ◌≡◌, true, cond, List, [], eqb, leb, get_or}
+use Rattle.std.specs.Prelude.{ℕ, ◌<◌, ◌≡◌, true, cond, List, [], eqb, leb, get_or, None}
 use Rattle.rules.specs.Rule.{Leaf}
 use Rattle.image.specs.Decode.{leaf_meaning, cell_at}
 use Rattle.store_table.specs.Stores.{Entry, write_only, is_table, count_in, entries_in, write_only_names, twin_of}
-use Rattle.store_table.specs.declared.Twin.TheVariants.{No}
 use Rattle.evaluate.specs.Evict.{env_of, leaf_says}
 use Rattle.verdict.specs.Check.{oldest}
 
@@ -28,5 +27,5 @@ GradedAll s n grades es = GradedUpTo s n n grades es
 -- a table with at least one store and no name twice
 pub record WithStores (s : List ℕ) : Type 0 where
   pub table : is_table s ≡ true
-  pub no_twin : twin_of (entries_in s) ≡ No
+  pub no_twin : twin_of (entries_in s) ≡ None
   pub stored : count_in s ≡ 0 → ⊥

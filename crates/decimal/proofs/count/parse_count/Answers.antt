@@ -14,12 +14,12 @@ pub returns-then-word-start : goal.returns-then-word-start
 returns-then-word-start c = sym (count_none _ c.sign_end-start.ensures (omega arith))
 
 pub loop-i-init : goal.loop-i-init
-loop-i-init c = (omega arith, (omega arith, count_start_lem _ c.sign_end-start.ensures (omega arith)))
+loop-i-init c = (omega arith, count_start_lem _ c.sign_end-start.ensures (omega arith))
 
 pub returns-then-not-is_digit : goal.returns-then-not-is_digit
 returns-then-not-is_digit c =
     let l = c.loop-i in
-    sym (count_off l.value _ l.i (omega arith) (sym c.is_digit.ensures ∙ c.if-not-is_digit.true)) ∙ l.invariant.1.1
+    sym (count_off l.value _ l.i (omega arith) (sym c.is_digit.ensures ∙ c.if-not-is_digit.true)) ∙ l.invariant.1
 
 -- the byte is a digit
 digit : (c : Else-not-is_digit) →
@@ -36,15 +36,15 @@ on : (c : After-digit_of-digit) →
     count_from (l.value * 10 + c.digit_of-digit.result) (drop (l.i + 1) w) ≡ count_of w
 on c =
     let l = c.loop-i in
-    rw c.digit_of-digit.ensures (sym (count_on l.value _ l.i (omega arith) (sym c.is_digit.ensures ∙ c.if-not-is_digit.false)) ∙ l.invariant.1.1)
+    rw c.digit_of-digit.ensures (sym (count_on l.value _ l.i (omega arith) (sym c.is_digit.ensures ∙ c.if-not-is_digit.false)) ∙ l.invariant.1)
 
 pub returns-then-digit-value : goal.returns-then-digit-value
 returns-then-digit-value c = sym (count_over _ _ (omega arith)) ∙ on (goal.at.returns-then-digit-value c).After-digit_of-digit
 
 pub loop-i-preserved : goal.loop-i-preserved
-loop-i-preserved c = (omega arith, (omega arith, on (goal.at.loop-i-preserved c).After-digit_of-digit))
+loop-i-preserved c = (omega arith, on (goal.at.loop-i-preserved c).After-digit_of-digit)
 
 pub returns : goal.returns
 returns c =
     let l = c.loop-i in
-    sym (count_end l.value _ l.i (omega arith) l.invariant.1.0) ∙ l.invariant.1.1
+    sym (count_end l.value _ l.i (omega arith) l.invariant.0) ∙ l.invariant.1

@@ -1,12 +1,9 @@
 -- `decimal::count::parse_count` meets its contract: the bytes left, read after the number so far, write the count. Assumes nothing.
 use mathlib.Core.Path.{◌≡◌}
-use Prim.Native.Nat.{◌-◌, ◌^◌, ◌≤◌, ◌<◌}
-use lib.ListN.{length, drop}
+use Prim.Native.Nat.{◌^◌, ◌<◌}
+use lib.ListN.{drop}
 use Rattle.decimal.specs.Count.{count_from, count_of}
 use Rattle.decimal.proofs.count.parse_count.Given as goal
 
 abbrev pub invariant-loop-i : goal.invariant-loop-i
-invariant-loop-i l = (l.i ≤ length l.word) × ((l.value < 2 ^ 64) × (count_from l.value (drop l.i l.word) ≡ count_of l.word))
-
-abbrev pub decreases-loop-i : goal.decreases-loop-i
-decreases-loop-i l = length l.word - l.i
+invariant-loop-i l = (l.value < 2 ^ 64) × (count_from l.value (drop l.i l.word) ≡ count_of l.word)

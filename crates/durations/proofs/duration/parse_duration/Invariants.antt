@@ -1,6 +1,6 @@
 -- `durations::duration::parse_duration` meets its contract: the parts so far and those of the later units make up the duration. Assumes nothing.
 use mathlib.Core.Path.{◌≡◌}
-use Prim.Native.Nat.{◌-◌, ◌*◌, ◌≤◌}
+use Prim.Native.Nat.{◌*◌, ◌≤◌}
 use lib.ListN.{length, drop}
 use Rattle.durations.specs.Duration.{units, plus, parts_from, duration_of}
 use Rattle.durations.proofs.Laws.DurationLaws.{part_most}
@@ -9,6 +9,3 @@ use Rattle.durations.proofs.duration.parse_duration.Given as goal
 abbrev pub invariant-loop-rank : goal.invariant-loop-rank
 invariant-loop-rank l =
     (l.at ≤ length l.word) × ((l.total ≤ l.rank * part_most) × (plus l.total (parts_from (drop l.rank units) l.word l.at) ≡ duration_of l.word))
-
-abbrev pub decreases-loop-rank : goal.decreases-loop-rank
-decreases-loop-rank l = length units - l.rank

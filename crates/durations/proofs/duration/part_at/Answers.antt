@@ -3,7 +3,6 @@ use mathlib.Core.Path.{◌≡◌, sym, ap, ◌∙◌}
 use Prim.Native.Nat.{◌≤◌}
 use native.Mathlib.Omega.{arith}
 use lib.ListN.{length}
-use lib.Seq.{length-take-le}
 use Rattle.ascii.specs.Letters.{equal}
 use Rattle.slices.specs.Text.{part}
 use Rattle.slices.proofs.Laws.TextLaws.{end_within}
@@ -41,12 +40,6 @@ slice_bounds-eq-start c = (ends (goal.at.slice_bounds-eq-start c).After-unit_end
 
 pub slice_bounds-eq-end : goal.slice_bounds-eq-end
 slice_bounds-eq-end c = (ends (goal.at.slice_bounds-eq-end c).After-unit_end-end).3
-
-pub slice_bounds-name-end : goal.slice_bounds-name-end
-slice_bounds-name-end c = omega (arith, c.time_unit-unit.ensures.len)
-
-pub slice_bounds-eq-end-2 : goal.slice_bounds-eq-end-2
-slice_bounds-eq-end-2 c = sym (length-take-le _ _ (omega (arith, c.time_unit-unit.ensures.len)))
 
 -- what is compared is the name in the word and the unit's
 named : (c : After-eq) →

@@ -10,7 +10,7 @@ decreases-put_rule l = l.size
 
 abbrev pub invariant-loop-stop : goal.invariant-loop-stop
 invariant-loop-stop l =
-    (l.stop ≤ l.from + l.size - 1) × TextWalks l.image l.n l.kind l.arg l.from l.size l.stop (λ t. WrittenAt l.fn.text l.text l.to l.end t)
+    (l.stop ≤ l.from + l.size - 1) × TextWalks l.image.bytes.now l.image.nodes l.root.kind l.root.arg l.from l.size l.stop (λ t. WrittenAt l.fn.text l.text l.to l.end t)
 
 abbrev pub decreases-loop-stop : goal.decreases-loop-stop
 decreases-loop-stop l = l.stop

@@ -10,7 +10,7 @@ decreases-text_size l = l.size
 
 abbrev pub invariant-loop-end : goal.invariant-loop-end
 invariant-loop-end l =
-    (l.end ≤ l.from + l.size - 1) × TextWalks l.image l.n l.kind l.arg l.from l.size l.end (λ t. l.total ≡ length (opening_of l.kind l.arg) + length t)
+    (l.end ≤ l.from + l.size - 1) × TextWalks l.image.bytes.now l.image.nodes l.root.kind l.root.arg l.from l.size l.end (λ t. l.total ≡ length (opening_of l.root.kind l.root.arg) + length t)
 
 abbrev pub decreases-loop-end : goal.decreases-loop-end
 decreases-loop-end l = l.end

@@ -1,52 +1,33 @@
 -- `safety::check::check_in` meets its contract: the tests are 17 and 18, and where there are stores the rest. Assumes nothing.
-use mathlib.Core.Path.{◌≡◌, sym, ◌∙◌}
-use mathlib.Core.Bool.{true}
+use mathlib.Core.Path.{◌≡◌, ◌∙◌}
 use native.Mathlib.Omega.{arith}
-use Rattle.store_table.specs.Stores.{is_table, entries_in, twin_of}
-use Rattle.store_table.proofs.Laws.StoresLaws.{well_made_in_bounds}
-use Rattle.store_table.proofs.Laws.BlankLaws.{zeros_blank}
-use Rattle.store_table.specs.declared.Twin.TheVariants.{No}
-use Rattle.verdict.specs.Inner.Grades.{WithStores}
-use Rattle.verdict.proofs.Laws.CheckLaws.{refused_17, refused_18, passed_none}
+use borrow.Author.Rules.{rules}
+use Rattle.std.specs.Prelude.{Err}
+use Rattle.verdict.specs.Verdict.{Verdict}
+use Rattle.decide.proofs.Laws.TestsLaws.{tested_table, tested_twin}
+use Rattle.verdict.proofs.Laws.CheckLaws.{refused_stores, passed_none}
 use Rattle.safety.proofs.check.check_in.Goals as goal
-use Rattle.safety.proofs.check.check_in.Goals.{Else-none, Else-not-is_table, In_default}
 
--- what the tests that were passed say
-the_table : (c : Else-not-is_table) →
-    is_table c.args.stores.now ≡ true
-the_table c = sym c.is_table.ensures ∙ c.if-not-is_table.false
-
-the_no_twin : (c : In_default) →
-    twin_of (entries_in c.args.stores.now) ≡ No
-the_no_twin c = sym c.twin_of.ensures.0 ∙ c.in_default.is
-
-the_stores : (c : Else-none) →
-    WithStores c.args.stores.now
-the_stores c =
-    record {
-      table = sym c.is_table.ensures ∙ c.if-not-is_table.false;
-      no_twin = sym c.twin_of.ensures.0 ∙ c.in_default.is;
-      stored = λ e. omega (arith, c.if-none.false, c.count_of-none.ensures);
-    }
-
-pub returns-then-not-is_table : goal.returns-then-not-is_table
-returns-then-not-is_table c r z st = c.refuse.ensures ∙ refused_17 r _ (sym c.is_table.ensures ∙ c.if-not-is_table.true)
-
-pub twin_of-requires : goal.twin_of-requires
-twin_of-requires c = (well_made_in_bounds _ _ (the_table (goal.at.twin_of-requires c).Else-not-is_table), zeros_blank 512)
-
-pub returns-in-At : goal.returns-in-At
-returns-in-At c r z st =
-    c.refuse-in-At.ensures ∙ refused_18 r _ (the_table (goal.at.returns-in-At c).Else-not-is_table) (sym c.twin_of.ensures.0 ∙ c.in-At.is)
-
-pub count_of-none-requires : goal.count_of-none-requires
-count_of-none-requires c =
-    well_made_in_bounds _ _ (the_table (goal.at.count_of-none-requires c).Else-not-is_table)
+pub returns-in_err-table : goal.returns-in_err-table
+returns-in_err-table c r z st =
+    let e : ◌≡◌ {A = Verdict} c.from_residual.result (Err c.in_err-table.field-0.0) = search rules in
+    e ∙ refused_stores r _ c.in_err-table.ensures
 
 pub returns-then-none : goal.returns-then-none
 returns-then-none c r z st =
-    passed_none r _ (the_table (goal.at.returns-then-none c).Else-not-is_table) (the_no_twin (goal.at.returns-then-none c).In_default) (omega (arith, c.if-none.true, c.count_of-none.ensures))
+    let t = c.in_ok-table.ensures in
+    passed_none r _ (tested_table _ t.0) (tested_twin _ t.0) (omega (arith, c.if-none.true, rw t.1.0 at c.count-none.ensures))
 
 pub check_names-requires : goal.check_names-requires
 check_names-requires c =
-    (c.requires.0, (c.requires.1, (the_stores (goal.at.check_names-requires c).Else-none, c.twin_of.ensures.1 c.in_default.is)))
+    let t = c.in_ok-table.ensures in (
+      c.requires,
+      record {
+        table = rw t.1.0 (tested_table _ t.0);
+        no_twin = rw t.1.0 (tested_twin _ t.0);
+        stored = λ e. omega (arith, c.if-none.false, c.count-none.ensures);
+      },
+    )
+
+pub returns : goal.returns
+returns c = rw c.in_ok-table.ensures.1.0 at c.check_names.ensures
