@@ -1,4 +1,4 @@
-// Answers as one number.
+// Answers as one number, since C is answered one: it holds a refusal's number, or 0 where there is none, and a value.
 #![tactic(auto)]
 
 ghost use Rattle.std.specs.Prelude.{◌≡◌, ℕ};
@@ -45,7 +45,7 @@ impl Value for () {
     }
 }
 
-// A refusal's number, or 0, times 2^32, and a value below 2^32.
+// A refusal's number, or 0, times 2^32, and a value below 2^32. There is no `From` of `usize` into `u64`; the cast loses nothing.
 fn packed_answer(number: u8, value: usize) -> u64
     ensures { result ≡ packed_answer number value }
 {

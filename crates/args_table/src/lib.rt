@@ -13,7 +13,7 @@ use store_args::{Arguments, Store, WrongArgument, given_by};
 use store_table::{COUNT_START, MODES_START, TOTAL_START};
 
 // Stores in the order of their arguments: how many, the mode of each, the length of each name, and the names, one after the other, up to
-// the end of the last.
+// the end of the last. Arrays of a fixed size, the parts of a table: the library has no heap.
 #[derive(Drop)]
 struct Stores {
     count: usize,
@@ -37,7 +37,7 @@ impl Stores {
         }
     }
 
-    // Adds a store after those that are there.
+    // Adds a store after those that are there. A cast, which is proved to lose nothing: `try_from` would answer an error that cannot be.
     fn push(&mut self, store: Store<'_>)
         requires { Room self.old (length store.name.now) }
         ensures { (es : List Entry) → Hold es self.old → Hold (es ++ (entry store.entry ∷ [])) self.new }
@@ -48,7 +48,7 @@ impl Stores {
         self.count += 1;
     }
 
-    // Writes the table of the stores, and answers where it ends.
+    // Writes the table of the stores, and answers where it ends. There is no `From` of `usize` into `u64`; the casts lose nothing.
     fn write(&self, table: &mut [u8]) -> usize
         requires { (self.now.count ≤ 64) × ((self.now.end ≤ 16_320) × (16_452 ≤ length table.old)) }
         ensures { Written self.now table.new result }

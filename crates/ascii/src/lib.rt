@@ -1,4 +1,5 @@
-// Letters and digits of ASCII, and two byte strings compared, with or without regard to case.
+// Letters and digits of ASCII, and two byte strings compared, with or without regard to case. Each calls the library's method, and
+// stays for its clause, which says the same in the words of specs/Letters.antt.
 #![tactic(auto)]
 
 ghost use Rattle.std.specs.Prelude.{◌≡◌};
@@ -12,7 +13,7 @@ pub fn is_digit(b: u8) -> bool
     b.is_ascii_digit()
 }
 
-// A letter in lower case; any other byte as it is.
+// A letter in lower case; any other byte as it is. No function calls it now: it stays, since it was promised.
 #[tactic(auto, unfolding(crate::specs::Letters::lower))]
 pub fn to_lower(b: u8) -> u8
     ensures { result ≡ lower b }
@@ -21,6 +22,7 @@ pub fn to_lower(b: u8) -> u8
 }
 
 // Whether the two are the same bytes.
+#[tactic(auto, using(crate::proofs::Laws::EqualLaws::equal_pointwise))]
 pub fn eq(a: &[u8], b: &[u8]) -> bool
     ensures { result ≡ equal a.now b.now }
 {

@@ -1,22 +1,20 @@
-// Calls: what follows a function's opening bracket, up to its closing bracket or its list.
+// Calls: what follows a function's opening bracket, up to its closing bracket or its list. `text, at` stay two parameters: a struct of
+// both, such as `WordReader`, has a clause about its text wherever one is made.
 #![tactic(auto)]
 
 ghost use Rattle.std.specs.Prelude.{◌≤◌, length};
-ghost use Rattle.classes.specs.Class.{open_bracket, comma};
-ghost use Rattle.classes.specs.Inner.ClassNumber.{class_number};
 ghost use Rattle.grammar.specs.Grammar.{older_than_start, readable_start, at_least_start, call_start};
 ghost use Rattle.grammar.specs.Inner.Starts.{BeginsAt};
-ghost use Rattle.calls.specs.Inner.Expected.{WordExpected, CountExpected, SignExpected};
+ghost use Rattle.calls.specs.Inner.Expected.{WordExpected, CountExpected};
 
-use classes::Class;
 use decimal::count::parse_count;
 use durations::duration::parse_duration;
 use grammar::{Combinator, Function, PrimaryStart, Test};
 use refusals::{Cause, Refusal};
-use signs::{bracket_at, place_of};
+use signs::{Bracket, expected_bracket, place_of};
 use tokens::{Token, Word, token_at, word_of};
 
-// The word that is expected at a position.
+// The word that is expected at a position. A pattern takes it out, since a token is no Option.
 fn expected_word(text: &[u8], at: usize) -> Result<Word, Refusal>
     ensures { WordExpected text.now at result }
 {
@@ -27,25 +25,12 @@ fn expected_word(text: &[u8], at: usize) -> Result<Word, Refusal>
     Ok(word)
 }
 
-// The count that a word is, which is expected at a position, and where the text continues after the word.
-fn expected_count(text: &[u8], at: usize) -> Result<(u64, usize), Refusal>
-    ensures { CountExpected text.now at result }
+// The count that a word must be. Its bounds stay a clause: they are those of a word in this text, and a `Word` holds no text.
+fn expected_count(text: &[u8], word: Word) -> Result<u64, Refusal>
+    requires { (word.start ≤ word.end) × (word.end ≤ length text.now) }
+    ensures { CountExpected text.now word result }
 {
-    let word = expected_word(text, at)?;
-    let count = parse_count(word_of(text, word.start, word.end));
-    Ok((count.ok_or(Cause::BadCount.at(word.place))?, word.next))
-}
-
-// Where the text continues after the bracket or the comma of this class, which is expected at a position; another token is
-// refused for this cause.
-fn expected_sign(text: &[u8], at: usize, k: Class, cause: Cause) -> Result<usize, Refusal>
-    requires { (open_bracket ≤ class_number k) × (class_number k ≤ comma) }
-    ensures { SignExpected text.now at (class_number k) cause result }
-{
-    let Some(next) = bracket_at(text, at, k) else {
-        return Err(cause.at(place_of(token_at(text, at))));
-    };
-    Ok(next)
+    parse_count(word_of(text, word.start, word.end)).ok_or(Cause::BadCount.at(word.place))
 }
 
 // `older_than(`: a word is expected, then `)`, and then the word must be a duration.
@@ -53,7 +38,7 @@ fn older_than_start(text: &[u8], at: usize) -> Result<PrimaryStart, Refusal>
     ensures { BeginsAt text.now at result (older_than_start text.now) }
 {
     let word = expected_word(text, at)?;
-    let after = expected_sign(text, word.next, Class::Close, Cause::BracketExpected)?;
+    let after = expected_bracket(text, word.next, Bracket::Close, Cause::BracketExpected)?;
     let duration = parse_duration(word_of(text, word.start, word.end));
     let milliseconds = duration.ok_or(Cause::BadDuration.at(word.place))?;
     Ok(PrimaryStart::Leaf {
@@ -62,24 +47,26 @@ fn older_than_start(text: &[u8], at: usize) -> Result<PrimaryStart, Refusal>
     })
 }
 
-// `readable(`: a count is expected, then `)`.
+// `readable(`: a word is expected, which must be a count, then `)`.
 fn readable_start(text: &[u8], at: usize) -> Result<PrimaryStart, Refusal>
     ensures { BeginsAt text.now at result (readable_start text.now) }
 {
-    let (count, end) = expected_count(text, at)?;
-    let next = expected_sign(text, end, Class::Close, Cause::BracketExpected)?;
+    let word = expected_word(text, at)?;
+    let count = expected_count(text, word)?;
+    let next = expected_bracket(text, word.next, Bracket::Close, Cause::BracketExpected)?;
     Ok(PrimaryStart::Leaf {
         test: Test::Readable(count),
         next,
     })
 }
 
-// `at_least(`: a count is expected, then a comma; its list follows.
+// `at_least(`: a word is expected, which must be a count, then a comma; its list follows.
 fn at_least_start(text: &[u8], place: usize, at: usize) -> Result<PrimaryStart, Refusal>
     ensures { BeginsAt text.now at result (at_least_start text.now place) }
 {
-    let (least, end) = expected_count(text, at)?;
-    let next = expected_sign(text, end, Class::Comma, Cause::MissingArgument)?;
+    let word = expected_word(text, at)?;
+    let least = expected_count(text, word)?;
+    let next = expected_bracket(text, word.next, Bracket::Comma, Cause::MissingArgument)?;
     Ok(PrimaryStart::List {
         combinator: Combinator::AtLeast(least),
         place,

@@ -1,4 +1,5 @@
-// Answers, each printed on a line. A call answers a number: a refusal's number times 2^32 and its place, or a value below 2^32.
+// Answers, each printed on a line. A call answers a number, as the C interface has it, and what is printed is what C is answered: a
+// refusal's number times 2^32 and its place, or a value below 2^32.
 use std::io::{Result, Write};
 
 // The least answer that is a refusal.

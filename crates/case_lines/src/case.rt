@@ -1,6 +1,9 @@
 // A case: a call, and what it is given.
+ghost use Rattle.std.specs.Prelude.{◌≤◌, IfOk, length};
+ghost use Rattle.case_lines.specs.Inner.Cases.{Lendable};
+
 use crate::fault::Fault;
-use crate::fields::{bytes, count, room};
+use crate::fields::{count, decoded, room};
 use std::alloc::Global;
 
 // The longest line that is a case.
@@ -38,41 +41,46 @@ pub enum Case {
     },
 }
 
-// The case of the fields of a line. After those of `check`, `judge` and `report` the line may end with a blank.
-fn case_of_fields(alloc: Global, fields: &[&[u8]]) -> Result<Case, Fault> {
+// The case of the fields of a line: the age and the length of a buffer are in decimal, and the rest is in hex. After those of `check`,
+// `judge` and `report` the line may end with a blank.
+fn case_of_fields(alloc: Global, fields: &[&[u8]]) -> Result<Case, Fault>
+    ensures { IfOk result (λ case. Lendable case) }
+{
     match fields {
         [b"read", text, length] => Ok(Case::Read {
-            text: bytes(alloc, text)?,
+            text: decoded(alloc, text)?,
             room: room(length)?,
         }),
-        [b"print", image, length] => Ok(Case::Print {
-            image: bytes(alloc, image)?,
-            room: room(length)?,
+        [b"print", image, size] => Ok(Case::Print {
+            image: decoded(alloc, image)?,
+            room: room(size)?,
         }),
         [b"decide", image, stores, age, list] => Ok(Case::Decide {
-            image: bytes(alloc, image)?,
-            stores: bytes(alloc, stores)?,
+            image: decoded(alloc, image)?,
+            stores: decoded(alloc, stores)?,
             age: count(age)?,
-            list: bytes(alloc, list)?,
+            list: decoded(alloc, list)?,
         }),
         [b"check", image, stores] | [b"check", image, stores, b""] => Ok(Case::Check {
-            image: bytes(alloc, image)?,
-            stores: bytes(alloc, stores)?,
+            image: decoded(alloc, image)?,
+            stores: decoded(alloc, stores)?,
         }),
         [b"judge", text, stores] | [b"judge", text, stores, b""] => Ok(Case::Judge {
-            text: bytes(alloc, text)?,
-            stores: bytes(alloc, stores)?,
+            text: decoded(alloc, text)?,
+            stores: decoded(alloc, stores)?,
         }),
         [b"report", text, args] | [b"report", text, args, b""] => Ok(Case::Report {
-            text: bytes(alloc, text)?,
-            args: bytes(alloc, args)?,
+            text: decoded(alloc, text)?,
+            args: decoded(alloc, args)?,
         }),
         _ => Err(Fault::Format),
     }
 }
 
 // The case that a line gives: the name of a call and what it is given, with single blanks between them.
-pub fn case_of(alloc: Global, line: &[u8]) -> Result<Case, Fault> {
+pub fn case_of(alloc: Global, line: &[u8]) -> Result<Case, Fault>
+    ensures { IfOk result (λ case. (length line.now ≤ 65_535) × Lendable case) }
+{
     if line.len() > LONGEST {
         return Err(Fault::Format);
     }

@@ -1,32 +1,44 @@
 // The fields of a line, and what they mean.
+ghost use Rattle.std.specs.Prelude.{◌≡◌, ◌<◌, false, [], IfOk, length};
+ghost use Rattle.std.specs.Char.{is_ascii_uppercase};
+ghost use Rattle.std.specs.List.{All};
+ghost use Rattle.hex.specs.Hex.{decode_of};
+ghost use Rattle.case_lines.specs.Inner.Fields.{number_of, room_of};
+
 use crate::fault::Fault;
 use decimal::count::parse_count;
 use std::alloc::Global;
 
 // The longest buffer that is lent. The longest text of a rule has 90,026 bytes.
-const ROOM: u64 = 131_072;
+pub const ROOM: usize = 131_072;
 
 // The bytes of a field, in hex with digits in lower case; a dash gives none.
-pub fn bytes(alloc: Global, field: &[u8]) -> Result<Vec<u8>, Fault> {
-    if field == b"-".as_slice() {
-        return Ok(Vec::new(alloc));
+pub fn decoded(alloc: Global, field: &[u8]) -> Result<Vec<u8>, Fault>
+    ensures dash { length field.now ≡ 1 → IfOk result (λ given. given.items ≡ []) }
+    ensures hex { 1 < length field.now → IfOk result (λ given. decode_of field.now ≡ Ok given.items) }
+    ensures lower { 1 < length field.now → IfOk result (λ given. All (λ b. is_ascii_uppercase b ≡ false) field.now) }
+{
+    match field {
+        b"-" => Ok(Vec::new(alloc)),
+        b"" => Err(Fault::Format),
+        _ if field.iter().any(|b| b.is_ascii_uppercase()) => Err(Fault::Format),
+        _ => Ok(hex::decode(alloc, field)?),
     }
-    if field.is_empty() || field.iter().any(|b| b.is_ascii_uppercase()) {
-        return Err(Fault::Format);
-    }
-    Ok(hex::decode(alloc, field)?)
 }
 
 // A number, in decimal.
-pub fn count(field: &[u8]) -> Result<u64, Fault> {
+pub fn count(field: &[u8]) -> Result<u64, Fault>
+    ensures { result ≡ number_of field.now }
+{
     parse_count(field).ok_or(Fault::Format)
 }
 
 // The length of a lent buffer, in decimal.
-pub fn room(field: &[u8]) -> Result<usize, Fault> {
-    let room = count(field)?;
-    if room > ROOM {
-        return Err(Fault::Format);
+pub fn room(field: &[u8]) -> Result<usize, Fault>
+    ensures { result ≡ room_of field.now }
+{
+    match usize::try_from(count(field)?) {
+        Ok(room) if room <= ROOM => Ok(room),
+        _ => Err(Fault::Format),
     }
-    Ok(room as usize)
 }

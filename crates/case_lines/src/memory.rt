@@ -1,19 +1,25 @@
 // The memory that a call is lent, and its answer there.
-ghost use Rattle.std.specs.Prelude.{◌≤◌, IfOk, vec_len};
+ghost use Rattle.std.specs.Prelude.{◌≡◌, length};
 
 use crate::answers::{REFUSED, print_bytes, print_refusal};
-use std::alloc::Global;
+use crate::fields::ROOM;
 use std::cmp::min;
 use std::io::{Result, Write};
 
 // What every byte of the memory is before a call. No text has such a byte, and few images.
 const FILL: u8 = 165;
 
-// A memory before a call, with room for a lent buffer and 1,000 bytes after it.
-pub fn filled(alloc: Global, room: usize) -> Result<Vec<u8>>
-    ensures { IfOk result (λ memory. room ≤ vec_len memory) }
+// How many bytes after the lent buffer are looked at too.
+pub const AFTER: usize = 1000;
+
+const MEMORY: usize = ROOM + AFTER;
+
+// A memory before a call, with room for the longest buffer and for what is after it. An array, since this cannot fail: a Vec asks for
+// memory, which may be refused.
+pub fn filled() -> [u8; MEMORY]
+    ensures { 132_072 ≡ length result }
 {
-    Ok(vec![in alloc; FILL; room.saturating_add(1000)]?)
+    [FILL; MEMORY]
 }
 
 // Says so before the answer where the memory is changed after the bytes written.
@@ -29,7 +35,8 @@ fn print_change<W: Write>(output: &mut W, memory: &[u8], written: usize) -> Resu
     }
 }
 
-// The answer of a call in a memory: the bytes that it wrote to its front, or a refusal.
+// The answer of a call in a memory: the bytes that it wrote to its front, or a refusal. Their number is below 2^32, so its cast is
+// lossless: TryFrom would have a case that never comes.
 pub fn print_lent<W: Write>(output: &mut W, answer: u64, memory: &[u8]) -> Result<()> {
     if answer < REFUSED {
         let written = min(answer as usize, memory.len());

@@ -22,7 +22,7 @@ pub enum Class {
     Stray,
 }
 
-// One letter for each class, for the table.
+// One letter for each class, so that the table has eight rows of 32.
 const B: Class = Class::Blank;
 
 const O: Class = Class::Open;
@@ -54,23 +54,25 @@ static CLASSES: [Class; 256] = [
     F, F, F, F, F, F, F, F, F, F, F, F, F, F, F, F, F, F, F, F, F, F, F, F, F, F, F, F, F, F, F, F,
 ];
 
-// The table.
-fn table() -> &'static [Class; 256]
+// The table of the classes of all bytes.
+#[tactic(auto, unfolding(crate::specs::Inner::ClassTable::faults))]
+pub fn table() -> &'static [Class; 256]
     ensures { IsClassTable result.now }
 {
     &CLASSES
 }
 
 // The class of a byte.
+#[tactic(auto, using(crate::proofs::Laws::ClassLaws::table_at))]
 pub fn class_of(b: u8) -> Class
     ensures { class_number result ≡ class_of b }
 {
-    table()[b as usize]
+    table()[usize::from(b)]
 }
 
 // Where the run of bytes of this class that begins at a position of the text ends.
-pub fn class_end(text: &[u8], at: usize, k: Class) -> usize
-    ensures { result ≡ run_end (of_class (class_number k)) text.now at }
+pub fn class_end(text: &[u8], at: usize, class: Class) -> usize
+    ensures { result ≡ run_end (of_class (class_number class)) text.now at }
 {
-    slices::run_end(text, at, |b| class_of(b) == k)
+    slices::run_end(text, at, |b| class_of(b) == class)
 }

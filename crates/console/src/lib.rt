@@ -17,11 +17,14 @@ pub const READ_BYTES: usize = 2049;
 // One byte more than an argument that gives a store may have, which is enough to detect a long one.
 const ARG_BYTES: usize = 267;
 
-// 65 arguments, which is enough to detect too many, each with a 0 after it.
-pub const ARGS_BYTES: usize = 17_420;
+// Enough arguments to detect too many.
+const ARGS: usize = 65;
 
-// Reads until the text is full or the input ends, and answers how many bytes were read. A loop over `read`: of what was read before
-// an error, the library's own methods say little.
+// All of them, each with a 0 after it.
+pub const ARGS_BYTES: usize = ARGS * (ARG_BYTES + 1);
+
+// Reads until the text is full or the input ends, and answers how many bytes were read. A loop over `read`, since read_exact calls
+// an input that is shorter than the text an error, and read_to_end reads into a Vec.
 pub fn read_text<R: Read>(input: &mut R, text: &mut [u8]) -> io::Result<usize>
     ensures fits { IfOk result (λ size. size ≤ length text.new) }
     ensures read { IfOk result (λ size. Consumes (R.remaining input.old) (R.remaining input.new) (take size text.new)) }
@@ -53,13 +56,14 @@ fn collect_one(env: &impl Env, args: &mut [u8], at: usize, i: usize) -> Option<u
     Some(end + 1)
 }
 
-// Writes the program's arguments one after another, each with a 0 after it, and answers where the last ends.
+// Writes the program's arguments one after another, each with a 0 after it, and answers where the last ends. One buffer, as
+// `page::report` takes them: without a heap there is no list of texts.
 pub fn collect(env: &impl Env, args: &mut [u8]) -> usize
     requires { 17_420 ≤ length args.old }
     ensures { result ≤ 17_420 }
 {
     let mut at = 0;
-    for i in 1..66 {
+    for i in 1..ARGS + 1 {
         let Some(end) = collect_one(env, args, at, i) else {
             return at;
         };

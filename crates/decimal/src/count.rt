@@ -6,19 +6,14 @@ use crate::digit_of;
 use ascii::is_digit;
 
 // Where the digits of a count begin: after a `+`, if there is one.
-#[tactic(auto, using(crate::proofs::Laws::CountLaws::sign_none, crate::proofs::Laws::CountLaws::sign_on, crate::proofs::Laws::CountLaws::sign_off))]
 fn sign_end(word: &[u8]) -> usize
     ensures { result ≡ sign_end word.now }
 {
-    if 0 < word.len() {
-        if word[0] == b'+' {
-            return 1;
-        }
-    }
-    0
+    if word.starts_with(b"+") { 1 } else { 0 }
 }
 
-// A count: an optional `+`, then one or more digits, at most 2^64 - 1.
+// A count: an optional `+`, then one or more digits, at most 2^64 - 1. By hand, since the library's from_str_radix takes a &str, and
+// these are bytes, which would first be tested for UTF-8.
 pub fn parse_count(word: &[u8]) -> Option<u64>
     ensures { result ≡ count_of word.now }
 {
@@ -27,16 +22,11 @@ pub fn parse_count(word: &[u8]) -> Option<u64>
         return None;
     }
     let mut value: u64 = 0;
-    for i in start..word.len() {
-        let b = word[i];
-        if !is_digit(b) {
+    for b in &word[start..] {
+        if !is_digit(*b) {
             return None;
         }
-        let digit = digit_of(b);
-        if (18_446_744_073_709_551_615 - digit) / 10 < value {
-            return None;
-        }
-        value = value * 10 + digit;
+        value = value.checked_mul(10)?.checked_add(digit_of(*b))?;
     }
     Some(value)
 }

@@ -1,7 +1,8 @@
-// What a refusal is about: a place in the text, a node's name, the write-only stores.
+// What a refusal is about: a place in the text, a node's name, the write-only stores. Each function takes a page and a position in it,
+// for the reason that `lines` gives.
 #![tactic(auto)]
 
-ghost use Rattle.std.specs.Prelude.{min, ◌+◌, ◌≤◌, length};
+ghost use Rattle.std.specs.Prelude.{min, ◌+◌, ◌*◌, ◌≤◌, length};
 ghost use Rattle.slices.specs.Text.{WrittenAt};
 ghost use Rattle.grammar.specs.Reading.{read_of};
 ghost use Rattle.store_table.specs.Stores.{entries_in, write_only_names};
@@ -17,14 +18,11 @@ use store_table::{Table, WRITE_ONLY};
 
 // The line of a text that has a place in it, marked there, or after the text's last visible byte.
 pub fn append_place(page: &mut [u8], at: usize, text: &[u8], place: usize) -> usize
-    requires { (length text.now ≤ 2048) × (at + 4099 ≤ length page.old) }
+    requires { at + 2 * length text.now + 3 ≤ length page.old }
     ensures { WrittenAt page.old page.new at result (marked_line text.now (min place (text_end text.now))) }
 {
     let end = end_of_last(text, text.len(), 33, 255);
-    if place < end {
-        return append_marked(page, at, text, place);
-    }
-    append_marked(page, at, text, end)
+    append_marked(page, at, text, place.min(end))
 }
 
 // The name of a node of the rule that a text reads as, by its index.
@@ -32,6 +30,7 @@ pub fn append_node(page: &mut [u8], at: usize, text: &[u8], index: usize) -> usi
     requires { at + 26_628 ≤ length page.old }
     ensures { WrittenAt page.old page.new at result (shown_all (node_name (read_of text.now) index)) }
 {
+    // An array of the size that fits any image: the library has no heap.
     let mut image = [0u8; IMAGE_BYTES];
     let Ok(size) = read::read(text, &mut image) else {
         return at;

@@ -1,4 +1,5 @@
-// A duration printed.
+// A duration printed, by hand: `write!` writes forward and can fail, and this writes backward from its end and cannot.
+// A text and a position stay two parameters: a struct that holds a lent text would add a clause to each function and take none away.
 #![tactic(auto)]
 
 ghost use Rattle.std.specs.Prelude.{◌≡◌, ◌≤◌, length};
@@ -20,7 +21,8 @@ fn part_size(k: u64, unit: &[u8]) -> usize
     digit_count(k) + unit.len()
 }
 
-// How many bytes a duration prints as; one of whole days has no part but days.
+// How many bytes a duration prints as; one of whole days has no part but days. The units are named here and where they are
+// written, since one list of them would want a loop from the first here, which whole days leave, and one from the last there.
 #[tactic(auto, using(crate::proofs::Laws::DurationTextLaws::duration_zero, crate::proofs::Laws::DurationTextLaws::duration_days, crate::proofs::Laws::DurationTextLaws::duration_length))]
 pub fn duration_size(ms: u64) -> usize
     ensures { result ≡ length (duration_text ms) }

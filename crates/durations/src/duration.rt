@@ -1,12 +1,14 @@
 // Durations.
-ghost use Rattle.std.specs.Prelude.{◌≡◌, ◌+◌, ◌≤◌, ◌<◌, length};
+// A word and a position stay two parameters: a struct that holds a lent word would add a clause to each function and take none away.
+ghost use Rattle.std.specs.Prelude.{◌≡◌, ◌≤◌, ◌<◌, true, length};
 ghost use Rattle.ascii.specs.Letters.{is_digit};
-ghost use Rattle.slices.specs.Text.{run_end, part};
+ghost use Rattle.slices.specs.Text.{run_end};
+ghost use Rattle.decimal.specs.Count.{all_digits};
 ghost use Rattle.decimal.specs.Decimal.{decimal};
-ghost use Rattle.durations.specs.Duration.{is_unit_byte, units, part_at, duration_of};
-ghost use Rattle.durations.specs.Inner.Units.{unit_at};
+ghost use Rattle.durations.specs.Duration.{is_unit_byte, part_at, duration_of};
+ghost use Rattle.durations.specs.Inner.Units.{unit_of};
 
-use crate::unit::{UNITS, time_unit};
+use crate::unit::{TimeUnit, units};
 use ascii::is_digit;
 use classes::{Class, class_end, class_of};
 use decimal::digit_of;
@@ -20,6 +22,7 @@ fn digits_end(word: &[u8], at: usize) -> usize
 }
 
 // A unit's name is made of bytes that are neither digits nor blanks.
+#[tactic(auto, using(crate::proofs::Laws::DurationLaws::unit_digit, crate::proofs::Laws::DurationLaws::unit_other))]
 fn is_unit_byte(b: u8) -> bool
     ensures { result ≡ is_unit_byte b }
 {
@@ -34,13 +37,13 @@ fn unit_end(word: &[u8], at: usize) -> usize
 }
 
 // The number that up to nine digits write.
-fn decimal_of(word: &[u8], from: usize, to: usize) -> u64
-    requires { (from ≤ to) × ((to ≤ length word.now) × ((to ≤ from + 9) × (run_end is_digit word.now from ≡ to))) }
-    ensures { (result ≡ decimal (part word.now from to)) × (result < 1000000000) }
+fn decimal_of(digits: &[u8]) -> u64
+    requires { (length digits.now ≤ 9) × (all_digits digits.now ≡ true) }
+    ensures { (result ≡ decimal digits.now) × (result < 1000000000) }
 {
     let mut value: u64 = 0;
-    for i in from..to {
-        value = value * 10 + digit_of(word[i]);
+    for b in digits {
+        value = value * 10 + digit_of(*b);
     }
     value
 }
@@ -52,10 +55,10 @@ pub struct Part {
     pub next: usize,
 }
 
-// The part at a position, if there is one of the unit of a rank: 1 to 9 digits, any blanks, and the unit's name.
-fn part_at(word: &[u8], at: usize, rank: usize) -> Option<Part>
-    requires { (at ≤ length word.now) × (rank < length units) }
-    ensures { result ≡ part_at (unit_at rank) word.now at }
+// The part at a position, if there is one of this unit: 1 to 9 digits, any blanks, and the unit's name.
+fn part_at(word: &[u8], at: usize, unit: &TimeUnit) -> Option<Part>
+    requires { (at ≤ length word.now) × (unit.now.milliseconds ≤ 604800000) }
+    ensures { result ≡ part_at (unit_of unit.now) word.now at }
 {
     let digits = digits_end(word, at);
     if digits == at {
@@ -66,11 +69,10 @@ fn part_at(word: &[u8], at: usize, rank: usize) -> Option<Part>
     }
     let start = class_end(word, digits, Class::Blank);
     let end = unit_end(word, start);
-    let unit = time_unit(rank);
     if ascii::eq(&word[start..end], unit.name) {
         let next = class_end(word, end, Class::Blank);
         return Some(Part {
-            amount: decimal_of(word, at, digits) * unit.milliseconds,
+            amount: decimal_of(&word[at..digits]) * unit.milliseconds,
             next,
         });
     }
@@ -83,8 +85,8 @@ pub fn parse_duration(word: &[u8]) -> Option<u64>
 {
     let mut at = class_end(word, 0, Class::Blank);
     let mut total: u64 = 0;
-    for rank in 0..UNITS {
-        if let Some(part) = part_at(word, at, rank) {
+    for unit in units() {
+        if let Some(part) = part_at(word, at, unit) {
             total += part.amount;
             if word.len() <= part.next {
                 return Some(total);

@@ -1,15 +1,9 @@
 -- What a token's variant says of it, where the program takes one out and has another before it. Assumes nothing.
 use Prim.Native.Nat.{ℕ}
-use mathlib.Core.Path.{◌≡◌, refl, sym, subst, ◌∙◌}
-use mathlib.Core.Bool.{cond, not}
-use mathlib.Core.List.{List, [], ◌∷◌}
+use mathlib.Core.Path.{◌≡◌, refl, sym}
+use mathlib.Core.List.{List}
 use native.Mathlib.Omega.{arith}
-use lib.Dec.{T, eqb}
-use mir.Val.{has_key}
-use types.Run.{OneOf, miss}
-use denote.Enum.Declared.{tag_of}
 use Rattle.refusals.specs.declared.Cause.TheVariants.{NoExpression}
-use Rattle.tokens.specs.contracts.Token.{the_type}
 use Rattle.tokens.specs.Token.{place_of, token_at, tokens_from}
 use Rattle.tokens.specs.declared.Token.{Token}
 use Rattle.tokens.specs.declared.Token.TheVariants.{End, Open, Close, Comma, And, Or, Word, Fault}
@@ -17,28 +11,6 @@ use Rattle.grammar.specs.Grammar.{token_kind, other_token, expected_word, refuse
 use Rattle.classes.specs.Class.{open_bracket}
 use Rattle.grammar.proofs.Laws.TokenListLaws.{word_missing}
 use Rattle.grammar.proofs.Laws.StartLaws.{head_none}
-
-tag_kind_lem : (t : Token) → tag_of the_type t ≡ token_kind t
-tag_kind_lem (End p) = refl
-tag_kind_lem (Open p n) = refl
-tag_kind_lem (Close p n) = refl
-tag_kind_lem (Comma p n) = refl
-tag_kind_lem (And p n) = refl
-tag_kind_lem (Or p n) = refl
-tag_kind_lem (Word w) = refl
-tag_kind_lem (Fault f) = refl
-
--- the keys but one, and all the tags but one
-abbrev pub without : ℕ → List ℕ → List ℕ
-without k [] = []
-without k (i ∷ is) = cond (eqb i k) (without k is) (i ∷ without k is)
-
-abbrev pub others : ℕ → List ℕ
-others k = without k (0 ∷ 1 ∷ 2 ∷ 3 ∷ 4 ∷ 5 ∷ 6 ∷ 7 ∷ [])
-
--- a token whose tag is one of these is of no other kind
-pub not_kind : (ks : List ℕ) (k : ℕ) → T (not (has_key ks k)) → (t : Token) → OneOf ks (tag_of the_type t) → token_kind t ≡ k → ⊥
-not_kind ks k h t o e = miss ks k h (subst (OneOf ks) (tag_kind_lem t ∙ e) o)
 
 -- a token that is no word, or no opening bracket, is of another kind
 no_word_kind : (t : Token) → ((w : _) → t ≡ Word w → ⊥) → token_kind t ≡ 6 → ⊥

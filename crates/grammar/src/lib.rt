@@ -20,8 +20,8 @@ pub enum Combinator {
     Any,
 }
 
-// A store's name, as its part of the text; another leaf; a bracket; a function with a list, and the place of its word; each
-// with the position where the text continues.
+// A store's name, as its part of the text; another leaf; a bracket; a function with a list, and the place of its word. Where the text
+// continues is in each case, so that one pattern of the parser takes it out with the rest.
 #[derive(Clone, Copy, PartialEq, Eq)]
 pub enum PrimaryStart {
     Name {

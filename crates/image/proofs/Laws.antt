@@ -10,4 +10,6 @@ pub mod TestLaws
 pub mod InsideLaws
 pub mod CellLaws
 pub mod KindLaws
+pub mod SiblingLaws
+pub mod RowLaws
 pub mod WholeLaws

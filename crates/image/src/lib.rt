@@ -1,5 +1,8 @@
-// The rule image: the kinds of nodes, an image written into a buffer, and a node and a name read from one.
+// The rule image: the kinds of nodes, an image written into a buffer, and a node and a name read from one. The casts lose nothing, as
+// is proved: there is no `From` of `usize` into `u32` or `u64`, of `u32` into `usize`, or of `u64` into either.
 #![tactic(auto)]
+
+pub mod children;
 
 ghost use Rattle.std.specs.Prelude.{◌≡◌, ℕ, true, ◌+◌, ◌*◌, ◌^◌, ◌≤◌, ◌<◌, length, map};
 ghost use Rattle.slices.specs.Text.{written};
@@ -9,7 +12,7 @@ ghost use Rattle.image.specs.Encode.{tag, name_arg, image_of};
 ghost use Rattle.image.specs.Decode.{node_at, decode};
 ghost use Rattle.image.specs.Inner.Leaves.{is_leaf};
 ghost use Rattle.image.specs.Inner.Valid.{node_of, is_some};
-ghost use Rattle.image.specs.Inner.Subtree.{NameInside};
+ghost use Rattle.image.specs.Inner.Subtree.{NameInside, ValidSubtree};
 
 use little_endian::{read, write};
 use slices::append;
@@ -83,8 +86,8 @@ fn write_numbers<const K: usize, N: Copy + Into<u64>>(s: &mut [u8], at: usize, n
     }
 }
 
-// Writes the image of nodes, of which these are the tags and the arguments, and of name bytes at the front of a buffer, and answers
-// its length.
+// Writes the image of nodes and name bytes at the front of a buffer, and answers its length. The tags and the arguments are two
+// slices, since an image has all tags before all arguments.
 pub fn write_image(image: &mut [u8], tags: &[u32], args: &[u64], names: &[u8]) -> usize
     requires { (length args.now ≡ length tags.now) × (names_start (length tags.now) + length names.now ≤ length image.old) }
     ensures { (result ≡ names_start (length tags.now) + length names.now) × (image.new ≡ written image.old 0 (image_of (length tags.now) tags.now args.now names.now)) }
@@ -130,33 +133,34 @@ pub struct Node {
     pub arg: u64,
 }
 
-// Node i of an image of n nodes.
+// Node i of an image of n nodes. That i is below n is asked here and in the methods, as a slice asks it of an index: a type of such
+// indices would ask it wherever one is made.
 #[tactic(auto, unfolding(crate::specs::Decode::node_at))]
 pub fn node_at(image: &[u8], n: usize, i: usize) -> Node
     requires { (names_start n ≤ length image.now) × (i < n) }
     ensures { node_of result ≡ node_at image.now n i }
 {
-    let tag = read::<4>(image, 4 + 4 * i);
-    let kind = (tag % 256) as u32;
-    let arg = read::<8>(image, 4 + 4 * n + 8 * i);
+    let tag = read::<4>(image, 4 + 4 * i) as u32;
     Node {
-        kind,
+        kind: tag_kind(tag),
         size: (tag / 256) as usize,
-        arg,
+        arg: read::<8>(image, 4 + 4 * n + 8 * i),
     }
 }
 
-// The bytes of a name in an image of n nodes, from the argument of its node.
+// The bytes of a name in an image of n nodes, from the argument of its node. No call of `names_start`, here or in `write_image`: it
+// asks that n is below 65,536, and these do not.
 pub fn name_of(image: &[u8], n: usize, arg: u64) -> &[u8]
     requires { NameInside image.now n arg }
     ensures { result.now ≡ name_of image.now n arg }
 {
-    let start = 4 + 12 * n + (arg / 65536) as usize;
-    let end = start + (arg % 65536) as usize;
+    let start = 4 + 12 * n + name_start(arg) as usize;
+    let end = start + name_length(arg) as usize;
     &image[start..end]
 }
 
-// The tags and arguments of so many nodes at the front of bytes, whatever they say.
+// The tags and arguments of so many nodes at the front of bytes, whatever they say: bytes that are still to be tested have them too,
+// so `Image` is another struct. The methods of both call `node_at` and `name_of`, which are written once.
 #[derive(Clone, Copy)]
 pub struct NodeTable<'a> {
     pub bytes: &'a [u8],
@@ -172,22 +176,29 @@ impl<'a> NodeTable<'a> {
     {
         node_at(self.bytes, self.count, i)
     }
+
+    // The bytes of a name, from the argument of its node.
+    pub fn name(self, arg: u64) -> &'a [u8]
+        requires { NameInside self.bytes.now self.count arg }
+        ensures { result.now ≡ name_of self.entry.bytes.now self.entry.count arg }
+    {
+        name_of(self.bytes, self.count, arg)
+    }
 }
 
-// The image of a rule, and how many nodes it has.
+// The nodes of a rule with their names, and how many nodes there are.
 #[derive(Clone, Copy)]
 pub struct Image<'a> {
     pub bytes: &'a [u8],
     pub nodes: usize,
-    pub ghost rule: { is_some (decode bytes.now) ≡ true },
-    pub ghost counted: { nodes ≡ node_count_in bytes.now },
+    pub ghost valid: { ∥ ValidSubtree bytes.now nodes 0 nodes ∥₁ },
 }
 
 impl<'a> Image<'a> {
     // The image that these bytes are, where they are known to be one.
     pub fn of(bytes: &'a [u8]) -> Image<'a>
         requires { is_some (decode bytes.now) ≡ true }
-        ensures { result.bytes.now ≡ bytes.now }
+        ensures { (result.bytes.now ≡ bytes.now) × (result.nodes ≡ node_count_in bytes.now) }
     {
         let nodes = node_count(bytes);
         Image { bytes, nodes }
@@ -201,7 +212,7 @@ impl<'a> Image<'a> {
         node_at(self.bytes, self.nodes, i)
     }
 
-    // Its nodes alone, for what asks nothing of the names.
+    // Its nodes as a table, which the walks over a part of them take: to evaluate and to print.
     pub fn table(self) -> NodeTable<'a>
         ensures { (result.bytes.now ≡ self.entry.bytes.now) × (result.count ≡ self.entry.nodes) }
     {

@@ -1,10 +1,10 @@
 // Whether bytes are a rule's image: forward passes over the nodes, no recursion.
 #![tactic(auto)]
 
-ghost use Rattle.std.specs.Prelude.{◌≡◌, MatchOption, false, ◌-◌, ◌≤◌, suc, ◌<◌, length};
+ghost use Rattle.std.specs.Prelude.{◌≡◌, MatchOption, true, false, ◌-◌, ◌≤◌, suc, ◌<◌};
 ghost use Rattle.std.proofs.Math.Option.{some};
 ghost use Rattle.rules.specs.Rule.{Rules};
-ghost use Rattle.image.specs.Layout.{names_start};
+ghost use Rattle.image.specs.Layout.{node_count_in};
 ghost use Rattle.image.specs.Decode.{cell_at, split, build, bind, only, node_at, name_end, ends_at, decode};
 ghost use Rattle.image.specs.Inner.Valid.{BuiltUpTo, is_some};
 
@@ -13,7 +13,8 @@ use image::{
 };
 use slices::ascii_from;
 
-// Whether the last of the rules that the first `end` nodes make are exactly the nodes from `from` on.
+// Whether the last of the rules that the first `end` nodes make are exactly the nodes from `from` on. A walk
+// of its own, since `image::children` is for nodes that are known to be rules, which is what is tested here.
 fn children_fit(nodes: NodeTable, from: usize, end: usize) -> bool
     requires { BuiltUpTo nodes.bytes.now nodes.count end × (from ≤ end) }
     ensures { (rs : Rules) → build (cell_at nodes.entry.bytes.now nodes.entry.count) end ≡ some rs → result ≡ is_some (split rs (end - from)) }
@@ -31,7 +32,8 @@ fn children_fit(nodes: NodeTable, from: usize, end: usize) -> bool
     true
 }
 
-// Whether node i can follow the rules that the nodes before it make.
+// Whether node i can follow the rules that the nodes before it make. That i is below their number is asked as of an index: a type of
+// such indices would ask it where one is made.
 fn node_fits(nodes: NodeTable, i: usize) -> bool
     requires { BuiltUpTo nodes.bytes.now nodes.count i × (i < nodes.count) }
     ensures { result ≡ is_some (build (cell_at nodes.entry.bytes.now nodes.entry.count) (suc i)) }
@@ -79,7 +81,8 @@ fn nodes_fit(nodes: NodeTable) -> bool
     size == n
 }
 
-// Whether the names of the nodes follow one another and end at m.
+// Whether the names of the nodes follow one another and end at m. Nodes are fetched by index: there is no slice of them, since tags and
+// arguments lie apart. That they are at most 2,048 is not in `NodeTable`, since `evaluate` takes a table of any number.
 fn names_run(nodes: NodeTable, m: usize) -> bool
     requires { nodes.count ≤ 2048 }
     ensures { result ≡ ends_at (name_end (node_at nodes.entry.bytes.now nodes.entry.count) nodes.entry.count) m }
@@ -96,13 +99,14 @@ fn names_run(nodes: NodeTable, m: usize) -> bool
             end += name_length(arg);
         }
     }
+    // A cast, which loses nothing: there is no `From` of `u64` into `usize`, or back.
     end as usize == m
 }
 
 // The image that the bytes are, if they are one. Inlined, since an answer of this size goes through memory.
 #[inline]
 pub fn checked(bytes: &[u8]) -> Option<Image>
-    ensures { MatchOption result (is_some (decode bytes.now) ≡ false) (λ i. i.bytes.now ≡ bytes.now) }
+    ensures { MatchOption result (is_some (decode bytes.now) ≡ false) (λ i. (is_some (decode bytes.now) ≡ true) × ((i.bytes.now ≡ bytes.now) × (i.nodes ≡ node_count_in bytes.now))) }
 {
     if bytes.len() < 4 {
         return None;

@@ -16,7 +16,8 @@ const ROOM_64: usize = 4 + 13 * 64;
 
 const ROOM_512: usize = 4 + 13 * 512;
 
-// Judges a text of at most 2,048 bytes: reads it into a buffer that has room, and checks the rule.
+// Judges a text of at most 2,048 bytes: reads it into a buffer that has room, and checks the rule. As in `read`, neither the room nor
+// that the text is short is in a type.
 fn judge_in(text: &[u8], image: &mut [u8], stores: &[u8]) -> Verdict
     requires { (length text.now ≤ 2048) × (4 + 13 * length text.now ≤ length image.old) }
     ensures { result ≡ judge_of text.now stores.now }
@@ -26,7 +27,7 @@ fn judge_in(text: &[u8], image: &mut [u8], stores: &[u8]) -> Verdict
     check_rule(written, stores)
 }
 
-// The same, with a buffer of ROOM bytes.
+// The same, with a buffer of ROOM bytes: an array, since the project has no heap.
 fn judge_within<const ROOM: usize>(text: &[u8], stores: &[u8]) -> Verdict
     requires { (length text.now ≤ 2048) × ((4 + 13 * length text.now ≤ ROOM) × (ROOM ≤ 26628)) }
     ensures { result ≡ judge_of text.now stores.now }

@@ -1,5 +1,5 @@
 -- Lines that a program prints for a person. Not of document 01. Assumes nothing.
-use Rattle.std.specs.Prelude.{ℕ, ◌-◌, cond, List, [], ◌∷◌, ◌++◌, eqb, length, take, replicate}
+use Rattle.std.specs.Prelude.{ℕ, ◌-◌, cond, List, [], ◌∷◌, ◌++◌, eqb, length, replicate}
 use Rattle.slices.specs.Text.{bytes, part, run_end, other, end_of_last}
 use Rattle.ascii.specs.Letters.{within}
 use Rattle.refusals.specs.Refusals.{word, meaning}

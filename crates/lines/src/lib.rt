@@ -10,7 +10,7 @@ use decimal::digits::append_digits;
 use refusals::Cause;
 use slices::{append, end_of_last, mark_at};
 
-// A line of a word and two numbers.
+// A line of a word and two numbers. By hand, and not by `Display`: `write!` into lent bytes can fail, and these functions cannot.
 pub fn append_numbers(text: &mut [u8], at: usize, word: &[u8], a: u64, b: u64) -> usize
     requires { at + length word.now + 42 ≤ length text.old }
     ensures { WrittenAt text.old text.new at result (numbers_line word.now a b) }

@@ -21,7 +21,8 @@ fn key_of(name: &[u8]) -> u64
     0
 }
 
-// A name's slot in the index: equal names have the same slot.
+// A name's slot in the index: equal names have the same slot. The cast of a number below 512 loses nothing, and there is no `From` of
+// `u64` into `usize`.
 pub fn hash_of(name: &[u8]) -> usize
     ensures { (result ≡ hash_of name.now) × (result < 512) }
 {

@@ -1,12 +1,13 @@
 // An index of a table's names: where each begins, and for each hash one of the entries whose name has it.
 ghost use Rattle.std.specs.Prelude.{◌≡◌, ◌≤◌, ◌<◌, ◌+◌, length, set};
 ghost use Rattle.store_table.specs.Stores.{count_in, entries_in};
-ghost use Rattle.store_table.specs.Inner.Index.{Blank, Finds, Indexed, hash_of, name_start_at};
+ghost use Rattle.store_table.specs.Inner.Index.{Blank, Finds, Indexed, hash_of};
 
 use crate::position;
 use store_table::{Table, same_name};
 
-// Where the name of each entry begins; and for each hash an entry's index plus 1, or 0.
+// Where the name of each entry begins; and for each hash an entry's index plus 1, or 0. Arrays, since the project has no heap; a slot
+// is a byte: `Option<u8>` has two, and `Option<NonZeroU8>` would hold the index plus 1 all the same.
 #[derive(Drop)]
 pub struct Index {
     pub starts: [u16; 64],
@@ -24,7 +25,8 @@ impl Index {
         }
     }
 
-    // Adds entry k, whose name begins at `start` and has this hash.
+    // Adds entry k, whose name begins at `start` and has this hash. Plain numbers, since a type for one would be made for this call
+    // alone; with their bounds the casts lose nothing, and `try_from` would answer an error that cannot be.
     pub fn enter(&mut self, k: usize, start: usize, hash: usize)
         requires { ((k < 64) × (hash < 512)) × (start < 65536) }
         ensures written { (self.new.starts ≡ set self.old.starts k start) × (self.new.slots ≡ set self.old.slots hash (k + 1)) }
@@ -34,7 +36,8 @@ impl Index {
         self.slots[hash] = (k + 1) as u8;
     }
 
-    // An entry that has this name among the first `first`, which are indexed; the name's hash is known.
+    // An entry that has this name among the first `first`, which are indexed. The hash is passed with what is known of it, since
+    // `twin_of` takes it once for this look and for `enter`.
     #[tactic(auto, using(store_table::proofs::Laws::IndexLaws::finds_none, store_table::proofs::Laws::IndexLaws::slot_empty))]
     pub fn find_by(&self, name: &[u8], hash: usize, table: Table, first: usize) -> Option<usize>
         requires { (hash ≡ hash_of name.now) × ((hash < 512) × ((first ≤ count_in table.bytes.now) × Indexed table.bytes.now first self.now.starts self.now.slots)) }

@@ -4,7 +4,7 @@
 pub mod hash;
 pub mod index;
 
-ghost use Rattle.std.specs.Prelude.{◌≡◌, ◌≤◌, ◌<◌};
+ghost use Rattle.std.specs.Prelude.{◌≤◌};
 ghost use Rattle.store_table.specs.Stores.{count_in, entries_in};
 ghost use Rattle.store_table.specs.Inner.Index.{Finds, IndexedAll};
 

@@ -15,7 +15,7 @@ use store_table::Table;
 pub const PAGE_BYTES: usize = 32_768;
 
 // Judges a text for the stores that arguments give, each with a 0 after it, and prints the verdict and what it means. Answers how
-// many bytes were written to the front of the page.
+// many bytes were written to the front of the page: none to a page that is too short, as `page_of` says, so 0 is a length like any other.
 pub fn report(text: &[u8], args: &[u8], page: &mut [u8]) -> usize
     ensures { WrittenAt page.old page.new 0 result (page_of text.now args.now page.old) }
 {
@@ -26,6 +26,7 @@ pub fn report(text: &[u8], args: &[u8], page: &mut [u8]) -> usize
     if many {
         return append(page, 0, b"more than 64 stores are given\n");
     }
+    // An array of the size that fits any table: the library has no heap.
     let mut table = [0u8; TABLE_BYTES];
     match table_of(args, &mut table) {
         Ok(size) => {

@@ -7,18 +7,10 @@ use Rattle.store_table.specs.Stores.{Entry}
 use Rattle.store_table.specs.TableBytes.{table_of}
 use Rattle.verdict.specs.Check.{judge_of}
 use Rattle.page_text.specs.Report.{detail_of, verdict_text}
-use Rattle.store_args.specs.declared.Fault.{Fault}
-use Rattle.store_args.specs.declared.Fault.TheVariants.{NoColon, NoMode, LongName, ForeignName}
 use Rattle.store_args.specs.declared.WrongArgument.{WrongArgument}
-use Rattle.store_args.specs.Arguments.{arguments_in, stores_in}
+use Rattle.store_args.specs.Arguments.{fault_text, arguments_in, stores_in}
 
 -- ---- bad arguments
-
-abbrev pub fault_text : Fault → List ℕ
-fault_text NoColon = bytes "no colon; a store is given as name:mode"
-fault_text NoMode = bytes "no such mode; it is read-write, read-only or write-only"
-fault_text LongName = bytes "too long; a name has at most 255 bytes"
-fault_text ForeignName = bytes "a name has a byte that is not ASCII"
 
 abbrev pub argument_line : WrongArgument → List ℕ
 argument_line w = bytes "argument " ++ (digits_of w.index ++ (bytes ": " ++ (fault_text w.fault ++ line_end)))

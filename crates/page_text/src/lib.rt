@@ -1,17 +1,18 @@
-// What the page of `rulejudge` says: definitions, laws, and the lines that need no choice of a place, a node or a store.
+// What the page of `rulejudge` says: definitions, laws, and the lines that need no choice of a place, a node or a store. Each function
+// takes a page and a position in it, for the reason that `lines` gives.
 #![tactic(auto)]
 
-ghost use Rattle.std.specs.Prelude.{◌≡◌, ◌+◌, ◌≤◌, length};
+ghost use Rattle.std.specs.Prelude.{◌+◌, ◌≤◌, length};
 ghost use Rattle.slices.specs.Text.{WrittenAt};
 ghost use Rattle.store_table.specs.Stores.{entries_in};
 ghost use Rattle.page_text.specs.Report.{verdict_line, age_line, confirmed_line, pass_line};
-ghost use Rattle.page_text.specs.Page.{fault_text, argument_line};
+ghost use Rattle.page_text.specs.Page.{argument_line};
 
 use decimal::digits::append_digits;
 use lines::append_shown;
 use read_line::append_refusal;
 use slices::append;
-use store_args::{Fault, WrongArgument};
+use store_args::WrongArgument;
 use store_table::Table;
 use verdict::{OLDEST, Verdict};
 
@@ -51,8 +52,7 @@ pub fn append_pass(page: &mut [u8], at: usize, stores: Table) -> usize
     requires { at + 72 ≤ length page.old }
     ensures { WrittenAt page.old page.new at result (pass_line (entries_in stores.entry.bytes.now)) }
 {
-    let none = stores.count() < 1;
-    if none {
+    if stores.count() == 0 {
         return append(
             page,
             at,
@@ -66,19 +66,7 @@ pub fn append_pass(page: &mut [u8], at: usize, stores: Table) -> usize
     )
 }
 
-// What is wrong with an argument.
-fn fault_text(fault: Fault) -> &'static [u8]
-    ensures { result.now ≡ fault_text fault }
-{
-    match fault {
-        Fault::NoColon => b"no colon; a store is given as name:mode",
-        Fault::NoMode => b"no such mode; it is read-write, read-only or write-only",
-        Fault::LongName => b"too long; a name has at most 255 bytes",
-        Fault::ForeignName => b"a name has a byte that is not ASCII",
-    }
-}
-
-// The line of an argument that is wrong.
+// The line of an argument that is wrong. A cast, which is proved to lose nothing: there is no `From` of `usize` into `u64`.
 pub fn append_argument(page: &mut [u8], wrong: WrongArgument) -> usize
     requires { 128 ≤ length page.old }
     ensures { WrittenAt page.old page.new 0 result (argument_line wrong) }
@@ -86,6 +74,6 @@ pub fn append_argument(page: &mut [u8], wrong: WrongArgument) -> usize
     let word_end = append(page, 0, b"argument ");
     let number_end = append_digits(page, word_end, wrong.index as u64);
     let colon_end = append(page, number_end, b": ");
-    let fault_end = append(page, colon_end, fault_text(wrong.fault));
+    let fault_end = append(page, colon_end, wrong.fault.text());
     append(page, fault_end, b"\n")
 }

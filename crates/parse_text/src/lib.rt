@@ -11,12 +11,13 @@ use token_reader::scan::{foreign_at, scan};
 use token_reader::token_from;
 use tokens::Token;
 
-// Parses a text without foreign bytes into nodes that have room for it: the rule, then 9. Where it reads as a rule, no token of
-// it is a fault.
+// Parses a text without foreign bytes into nodes that have room for it, and drops those that they held: the rule, then 9. Where it
+// reads as a rule, no token of it is a fault.
 fn parse_whole<const N: usize>(text: &[u8], nodes: &mut Nodes<N>) -> Result<(), Refusal>
     requires { ReadRoom text.now nodes.old }
     ensures { Ended text.now nodes.new result }
 {
+    nodes.clear();
     let end = parse_or(text, 0, 0, nodes)?;
     let rest = token_from(text, end);
     let Token::End { place: _ } = rest else {

@@ -1,6 +1,5 @@
 // The parser: or calls and, and calls primary, primary calls or again. Each appends what it reads to the same nodes, and
-// answers where the text continues. `parse_or` and `parse_and` are alike but stay two: three functions in a cycle are a form that the
-// project has chosen. What each asks, `Before`, relates a text, a position, a depth and the nodes, so no type of one of them has it.
+// answers where the text continues.
 #![tactic(auto)]
 
 ghost use Rattle.std.specs.Prelude.{◌+◌, ◌-◌};
@@ -10,15 +9,16 @@ ghost use Rattle.grammar.specs.Inner.Starts.{left, start_next, Begins};
 ghost use Rattle.nodes.specs.Inner.Parses.{Before, ParsedBy};
 ghost use Rattle.parser.specs.Inner.Starting.{NextAhead};
 
-use classes::Class;
 use endings::{close_group, close_list, first_argument, next_argument, next_operand};
 use grammar::{Combinator, PrimaryStart};
 use nodes::Nodes;
 use primary_start::primary_start_at;
 use refusals::Refusal;
+use signs::Sign;
 
 // How the primary at a position begins, where `depth` brackets are open. What it adds to `primary_start_at` is the clause
 // `ahead`, by cases: a call inside the cycle gets its proof from such facts alone.
+#[tactic(auto, using(crate::proofs::Laws::PrimaryLaws::next_ahead))]
 fn start_at(text: &[u8], at: usize, depth: usize) -> Result<PrimaryStart, Refusal>
     ensures begins { Begins text.now at (at + 1) (left text.now at - 1) result (primary_start text.now depth (tokens_from text.now at)) }
     ensures ahead { NextAhead text.now at (start_next result) }
@@ -26,7 +26,8 @@ fn start_at(text: &[u8], at: usize, depth: usize) -> Result<PrimaryStart, Refusa
     primary_start_at(text, at, depth)
 }
 
-// or: and-expressions, joined by or-signs.
+// or: and-expressions, joined by or-signs. `text, at` stay two parameters: with a `WordReader` that holds both, reading was about a sixth
+// slower. What is asked, `Before`, relates a text, a position, a depth and the nodes, so no type of one of them has it.
 #[cycle(expression)]
 pub fn parse_or<const N: usize>(
     text: &[u8],
@@ -39,14 +40,15 @@ pub fn parse_or<const N: usize>(
 {
     let first = nodes.n;
     let mut end = parse_and(text, at, depth, nodes)?;
-    while let Some(next) = next_operand(text, end, Class::Bar, image::ANY, nodes) {
+    while let Some(next) = next_operand(text, end, Sign::Or, image::ANY, nodes) {
         end = parse_and(text, next, depth, nodes)?;
         nodes.push_combinator(first, Combinator::Any);
     }
     Ok(end)
 }
 
-// and: primaries, joined by and-signs.
+// and: primaries, joined by and-signs. It and `parse_or` are alike but stay two: three functions in a cycle are a form that the project
+// has chosen.
 #[cycle(expression)]
 pub fn parse_and<const N: usize>(
     text: &[u8],
@@ -59,7 +61,7 @@ pub fn parse_and<const N: usize>(
 {
     let first = nodes.n;
     let mut end = parse_primary(text, at, depth, nodes)?;
-    while let Some(next) = next_operand(text, end, Class::Ampersand, image::ALL, nodes) {
+    while let Some(next) = next_operand(text, end, Sign::And, image::ALL, nodes) {
         end = parse_primary(text, next, depth, nodes)?;
         nodes.push_combinator(first, Combinator::All);
     }

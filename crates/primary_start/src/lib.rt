@@ -1,8 +1,11 @@
-// How a primary begins.
+// How a primary begins. `text, at` stay two parameters: a struct of both, such as `WordReader`, has a clause about its text wherever one
+// is made. A word's bounds stay a clause: they are those of a word in this text, and a `Word` holds no text.
 #![tactic(auto)]
 
-ghost use Rattle.std.specs.Prelude.{◌≤◌, ◌+◌, ◌-◌, length};
+ghost use Rattle.std.specs.Prelude.{◌≡◌, ◌≤◌, ◌<◌, ◌+◌, ◌-◌, length, IfOk, IfErr};
 ghost use Rattle.slices.specs.Text.{part};
+ghost use Rattle.refusals.specs.Refusals.{refusal};
+ghost use Rattle.refusals.specs.declared.Cause.TheVariants.{TooDeep};
 ghost use Rattle.tokens.specs.Token.{tokens_from};
 ghost use Rattle.grammar.specs.Grammar.{unquoted_start, after, word_start, primary_start};
 ghost use Rattle.classes.specs.Class.{open_bracket};
@@ -10,11 +13,36 @@ ghost use Rattle.grammar.specs.Inner.Starts.{left, Begins};
 
 use ascii::eq_ignore_ascii_case;
 use calls::call_start;
-use classes::Class;
 use grammar::{PrimaryStart, Test, function_of};
 use refusals::{Cause, Refusal};
-use signs::{bracket_at, place_of};
+use signs::{Bracket, bracket_at, place_of};
 use tokens::{Token, Word, token_at, word_of};
+
+// The brackets that may be open at once.
+const DEEPEST: usize = 64;
+
+// A word as a store's name. No From: not every word is one, since an unquoted word may be a function or another leaf.
+fn name_of(word: Word) -> PrimaryStart
+    ensures { result ≡ PrimaryStart.Name word.start word.end word.next }
+{
+    PrimaryStart::Name {
+        start: word.start,
+        end: word.end,
+        next: word.next,
+    }
+}
+
+// A bracket that opens at a place, where `depth` brackets are open, is refused where that is too deep.
+fn allow_bracket(depth: usize, place: usize) -> Result<(), Refusal>
+    ensures room { IfOk result (λ _. depth < 64) }
+    ensures deep { IfErr result (λ f. (64 ≤ depth) × (f ≡ refusal TooDeep place)) }
+{
+    let deep = DEEPEST <= depth;
+    if deep {
+        return Err(Cause::TooDeep.at(place));
+    }
+    Ok(())
+}
 
 // An unquoted word that begins a primary: a function where a bracket follows it, else a leaf.
 fn unquoted_start(text: &[u8], depth: usize, word: Word) -> Result<PrimaryStart, Refusal>
@@ -22,23 +50,16 @@ fn unquoted_start(text: &[u8], depth: usize, word: Word) -> Result<PrimaryStart,
     ensures { Begins text.now word.start word.next (left text.now word.next) result (unquoted_start text.now depth word.place (part text.now word.start word.end) (tokens_from text.now word.next) (after open_bracket (tokens_from text.now word.next))) }
 {
     let bytes = word_of(text, word.start, word.end);
-    let Some(inside) = bracket_at(text, word.next, Class::Open) else {
+    let Some(inside) = bracket_at(text, word.next, Bracket::Open) else {
         if eq_ignore_ascii_case(bytes, b"readable") {
             return Ok(PrimaryStart::Leaf {
                 test: Test::Readable(1),
                 next: word.next,
             });
         }
-        return Ok(PrimaryStart::Name {
-            start: word.start,
-            end: word.end,
-            next: word.next,
-        });
+        return Ok(name_of(word));
     };
-    let deep = 64 <= depth;
-    if deep {
-        return Err(Cause::TooDeep.at(inside - 1));
-    }
+    allow_bracket(depth, inside - 1)?;
     call_start(text, word.place, function_of(bytes), inside)
 }
 
@@ -49,11 +70,7 @@ fn word_start(text: &[u8], depth: usize, word: Word) -> Result<PrimaryStart, Ref
 {
     let named = word.quoted;
     if named {
-        return Ok(PrimaryStart::Name {
-            start: word.start,
-            end: word.end,
-            next: word.next,
-        });
+        return Ok(name_of(word));
     }
     unquoted_start(text, depth, word)
 }
@@ -66,10 +83,7 @@ pub fn primary_start_at(text: &[u8], at: usize, depth: usize) -> Result<PrimaryS
     match t {
         Token::Word(word) => word_start(text, depth, word),
         Token::Open { place, next } => {
-            let deep = 64 <= depth;
-            if deep {
-                return Err(Cause::TooDeep.at(place));
-            }
+            allow_bracket(depth, place)?;
             Ok(PrimaryStart::Group { next })
         }
         _ => Err(Cause::NoExpression.at(place_of(t))),

@@ -18,13 +18,12 @@ pub type Printing = Result<usize, Refusal>;
 pub fn print(image: &[u8], text: &mut [u8]) -> Printing
     ensures { outcome result text.new ≡ print_into image.now text.old }
 {
-    let Some(rule) = checked(image) else {
-        return Err(Cause::BadImage.at(0));
-    };
-    let size = text_size(rule, 0, rule.nodes);
+    let rule = checked(image).ok_or(Cause::BadImage.at(0))?;
+    let nodes = rule.table();
+    let size = text_size(nodes, 0, nodes.count);
     if text.len() < size {
         return Err(Cause::ShortBuffer.at(0));
     }
-    put_rule(rule, 0, rule.nodes, text, size);
+    put_rule(nodes, 0, nodes.count, text, size);
     Ok(size)
 }

@@ -1,39 +1,33 @@
 // The text of a rule, written from its end.
-ghost use Rattle.std.specs.Prelude.{◌≡◌, ◌≤◌, length};
+ghost use Rattle.std.specs.Prelude.{◌≤◌, length};
 ghost use Rattle.slices.specs.Text.{WrittenAt};
-ghost use Rattle.rules.specs.Rule.{Rule};
-ghost use Rattle.rules.specs.Rule.{size as size_of};
-ghost use Rattle.image.specs.Decode.{cell_at};
-ghost use Rattle.image.specs.Inner.EncodedAt.{EncodedAt};
-ghost use Rattle.image.specs.Inner.Subtree.{NodeRow};
+ghost use Rattle.image.specs.Inner.Subtree.{OfRule, ValidSubtree};
 ghost use Rattle.print_text.specs.Print.{text_of};
 
-use image::{Image, is_leaf};
+use image::{NodeTable, is_leaf};
 use print_pieces::{prepend_back, prepend_front, prepend_leaf, prepend_opening};
 
-// The rule whose nodes are the `size` from `from` on: the size falls at each call.
-pub fn put_rule(image: Image, from: usize, size: usize, text: &mut [u8], end: usize) -> usize
-    requires { NodeRow image.bytes.now image.nodes from size × ((ρ : Rule) → size_of ρ ≡ size → EncodedAt ρ (cell_at image.bytes.now image.nodes) from → length (text_of ρ) ≤ end) × (end ≤ length text.old) }
-    ensures { (ρ : Rule) → size_of ρ ≡ size → EncodedAt ρ (cell_at image.entry.bytes.now image.entry.nodes) from → WrittenAt text.old text.new result end (text_of ρ) }
+// The rule whose nodes are the `size` from `from` on: the size falls at each call. A struct of `nodes`, `from` and `size`
+// for `evaluate` too could not hold where the names lie; one of `text` and `end` would add what it keeps of them to each clause.
+pub fn put_rule(nodes: NodeTable, from: usize, size: usize, text: &mut [u8], end: usize) -> usize
+    requires { ValidSubtree nodes.bytes.now nodes.count from size × (OfRule nodes.bytes.now nodes.count from size (λ ρ. length (text_of ρ) ≤ end)) × (end ≤ length text.old) }
+    ensures { OfRule nodes.entry.bytes.now nodes.entry.count from size (λ ρ. WrittenAt text.old text.new result end (text_of ρ)) }
 {
     let at = from + size - 1;
-    let root = image.node(at);
+    let root = nodes.node(at);
     if is_leaf(root.kind) {
-        return prepend_leaf(image, root, text, end);
+        return prepend_leaf(nodes.bytes, nodes.count, root, text, end);
     }
-    let mut stop = at;
     let mut to = end;
-    while from < stop {
-        let child = image.node(stop - 1);
-        let back = child.size;
-        to = prepend_back(root.kind, child.kind, stop == at, text, to);
-        stop -= back;
-        if is_leaf(child.kind) {
-            to = prepend_leaf(image, child, text, to);
+    for child in nodes.children(from, at) {
+        let node = child.node;
+        to = prepend_back(root.kind, node.kind, child.end == at, text, to);
+        if is_leaf(node.kind) {
+            to = prepend_leaf(nodes.bytes, nodes.count, node, text, to);
         } else {
-            to = put_rule(image, stop, back, text, to);
+            to = put_rule(nodes, child.start, node.size, text, to);
         }
-        to = prepend_front(root.kind, child.kind, text, to);
+        to = prepend_front(root.kind, node.kind, text, to);
     }
-    prepend_opening(root.kind, root.arg, text, to)
+    prepend_opening(root, text, to)
 }

@@ -1,4 +1,5 @@
-// The pieces of a rule's text, written from the end.
+// The pieces of a rule's text, written from the end. By hand, and not by `Display`, which writes from the front and can fail. The kinds
+// of a combinator and a child are parameters: a struct would be made for each child, and the clauses would name its two fields.
 #![tactic(auto)]
 
 ghost use Rattle.std.specs.Prelude.{◌≡◌, ◌≤◌, length};
@@ -9,18 +10,20 @@ ghost use Rattle.print_text.specs.Inner.Pieces.{leaf_in, opening_of, after_child
 
 use decimal::digits::prepend_digits;
 use duration_text::format_duration;
-use image::{Image, Node};
+use image::{Node, name_of};
 use print_text::size::is_bracketed;
 use slices::prepend;
 
-// Writes a leaf's text so that it ends at a position, and answers where it begins; the functions below do so with other pieces.
+// Writes a leaf's text so that it ends at a position, and answers where it begins; the functions below do so with other pieces. A
+// struct that holds the lent text and the position would add what it keeps of them to each clause.
 #[tactic(auto, using(slices::proofs::Laws::WrittenLaws::written_at_none), unfolding(print_text::specs::Inner::Pieces::leaf_text_of, print_text::specs::Print::leaf_text, image::specs::Decode::meaning))]
-pub fn prepend_leaf(image: Image, leaf: Node, text: &mut [u8], end: usize) -> usize
-    requires { (leaf.kind ≡ named_kind → NameInside image.bytes.now image.nodes leaf.arg) × (length (leaf_in image.bytes.now image.nodes leaf.kind leaf.arg) ≤ end) × (end ≤ length text.old) }
-    ensures { WrittenAt text.old text.new result end (leaf_in image.entry.bytes.now image.entry.nodes leaf.kind leaf.arg) }
+pub fn prepend_leaf(image: &[u8], n: usize, leaf: Node, text: &mut [u8], end: usize) -> usize
+    requires { (leaf.kind ≡ named_kind → NameInside image.now n leaf.arg) × (length (leaf_in image.now n leaf.kind leaf.arg) ≤ end) × (end ≤ length text.old) }
+    ensures { WrittenAt text.old text.new result end (leaf_in image.now n leaf.kind leaf.arg) }
 {
+    // Of bytes with a leaf that is no name nothing is asked: so there is no `NodeTable`, and a clause for a name alone.
     match leaf.kind {
-        image::NAMED => prepend(text, end, image.name(leaf.arg)),
+        image::NAMED => prepend(text, end, name_of(image, n, leaf.arg)),
         image::OLDER_THAN => {
             let closed = prepend(text, end, b")");
             let at = format_duration(text, closed, leaf.arg);
@@ -37,21 +40,22 @@ pub fn prepend_leaf(image: Image, leaf: Node, text: &mut [u8], end: usize) -> us
 
 // What comes before a combinator's children.
 #[tactic(auto, using(slices::proofs::Laws::WrittenLaws::written_at_none), unfolding(print_text::specs::Inner::Pieces::opening_of, print_text::specs::Print::opening))]
-pub fn prepend_opening(kind: u32, arg: u64, text: &mut [u8], end: usize) -> usize
-    requires { (length (opening_of kind arg) ≤ end) × (end ≤ length text.old) }
-    ensures { WrittenAt text.old text.new result end (opening_of kind arg) }
+pub fn prepend_opening(root: Node, text: &mut [u8], end: usize) -> usize
+    requires { (length (opening_of root.kind root.arg) ≤ end) × (end ≤ length text.old) }
+    ensures { WrittenAt text.old text.new result end (opening_of root.kind root.arg) }
 {
-    match kind {
+    match root.kind {
         image::AT_LEAST => {
             let comma = prepend(text, end, b", ");
-            let at = prepend_digits(text, comma, arg);
+            let at = prepend_digits(text, comma, root.arg);
             prepend(text, at, b"at_least(")
         }
         _ => end,
     }
 }
 
-// What comes after a child, the last one or an earlier one.
+// What comes after a child, the last one or an earlier one. `last` is found for each child, and the definition has it: with two
+// functions the `if` would move into `prepend_back`.
 #[tactic(auto, using(slices::proofs::Laws::WrittenLaws::written_at_none), unfolding(print_text::specs::Inner::Pieces::after_child_of, print_text::specs::Print::after_child))]
 fn prepend_after(kind: u32, last: bool, text: &mut [u8], end: usize) -> usize
     requires { (length (after_child_of kind last) ≤ end) × (end ≤ length text.old) }

@@ -1,20 +1,17 @@
 // How many bytes the text of a rule has. A walk of its own, beside the one in `print` that writes them: one walk for both would take
 // a trait of outputs, one of them around a lent text, and is no shorter.
-ghost use Rattle.std.specs.Prelude.{◌≡◌, false, ◌+◌, length};
-ghost use Rattle.rules.specs.Rule.{Rule};
-ghost use Rattle.rules.specs.Rule.{size as size_of};
+ghost use Rattle.std.specs.Prelude.{◌≡◌, false, ◌+◌, ◌≤◌, length};
 ghost use Rattle.image.specs.Kinds.{named_kind};
-ghost use Rattle.image.specs.Decode.{cell_at};
-ghost use Rattle.image.specs.Inner.EncodedAt.{EncodedAt};
-ghost use Rattle.image.specs.Inner.Subtree.{NodeRow, NameInside};
+ghost use Rattle.image.specs.Inner.Subtree.{OfRule, ValidSubtree, NameInside};
 ghost use Rattle.print_text.specs.Inner.Pieces.{bracketed_of, leaf_in, opening_of, after_child_of, front_of, back_of};
 ghost use Rattle.print_text.specs.Print.{text_of};
 
 use decimal::digits::digit_count;
 use duration_text::duration_size;
-use image::{Image, Node, is_leaf};
+use image::{Node, NodeTable, is_leaf};
 
-// Whether a child of one kind is in brackets under a combinator of another.
+// Whether a child of one kind is in brackets under a combinator of another. The two kinds are parameters, here and below: a struct of
+// them would be made for each child, and the clauses would name its two fields.
 #[tactic(auto, unfolding(crate::specs::Inner::Pieces::bracketed_of))]
 pub fn is_bracketed(kind: u32, child: u32) -> bool
     ensures { result ≡ bracketed_of kind child }
@@ -22,14 +19,14 @@ pub fn is_bracketed(kind: u32, child: u32) -> bool
     kind == image::ALL && child == image::ANY
 }
 
-// The bytes of a leaf.
+// The bytes of a leaf. That a name lies in the bytes is asked where it is read, since a `Node` does not hold its image.
 #[tactic(auto, using(decimal::proofs::Laws::DigitsLaws::digits_short, duration_text::proofs::Laws::DurationTextLaws::duration_short), unfolding(crate::specs::Inner::Pieces::leaf_text_of, image::specs::Decode::meaning))]
-fn leaf_size(image: Image, leaf: Node) -> usize
-    requires { leaf.kind ≡ named_kind → NameInside image.bytes.now image.nodes leaf.arg }
-    ensures { result ≡ length (leaf_in image.entry.bytes.now image.entry.nodes leaf.kind leaf.arg) }
+fn leaf_size(nodes: NodeTable, leaf: Node) -> usize
+    requires { leaf.kind ≡ named_kind → NameInside nodes.bytes.now nodes.count leaf.arg }
+    ensures { result ≡ length (leaf_in nodes.entry.bytes.now nodes.entry.count leaf.kind leaf.arg) }
 {
     match leaf.kind {
-        image::NAMED => image.name(leaf.arg).len(),
+        image::NAMED => nodes.name(leaf.arg).len(),
         image::OLDER_THAN => 12 + duration_size(leaf.arg),
         image::READABLE => 10 + digit_count(leaf.arg),
         _ => 0,
@@ -38,11 +35,11 @@ fn leaf_size(image: Image, leaf: Node) -> usize
 
 // The bytes before a combinator's children.
 #[tactic(auto, using(decimal::proofs::Laws::DigitsLaws::digits_short), unfolding(crate::specs::Inner::Pieces::opening_of))]
-fn opening_size(kind: u32, arg: u64) -> usize
-    ensures { result ≡ length (opening_of kind arg) }
+fn opening_size(root: Node) -> usize
+    ensures { result ≡ length (opening_of root.kind root.arg) }
 {
-    match kind {
-        image::AT_LEAST => 11 + digit_count(arg),
+    match root.kind {
+        image::AT_LEAST => 11 + digit_count(root.arg),
         _ => 0,
     }
 }
@@ -53,6 +50,7 @@ fn opening_size(kind: u32, arg: u64) -> usize
 fn after_size(kind: u32, last: bool) -> usize
     ensures { result ≡ length (after_child_of kind last) }
 {
+    // `last` is an argument, as in `after_child_of`: two functions would each state half of that definition.
     if last {
         match kind {
             image::AT_LEAST => 1,
@@ -86,28 +84,26 @@ fn around_size(kind: u32, child: u32, last: bool, between: usize) -> usize
     between
 }
 
-// The bytes of the rule whose nodes are the `size` from `from` on: the size falls at each call.
-pub fn text_size(image: Image, from: usize, size: usize) -> usize
-    requires { NodeRow image.bytes.now image.nodes from size }
-    ensures { (ρ : Rule) → size_of ρ ≡ size → EncodedAt ρ (cell_at image.entry.bytes.now image.entry.nodes) from → result ≡ length (text_of ρ) }
+// The bytes of the rule whose nodes are the `size` from `from` on: the size falls at each call. A struct of `nodes`, `from` and `size`
+// for `evaluate` too could hold neither where the names lie nor that there are at most 2,048 nodes, which `evaluate` does not ask.
+pub fn text_size(nodes: NodeTable, from: usize, size: usize) -> usize
+    requires { ValidSubtree nodes.bytes.now nodes.count from size × (nodes.count ≤ 2048) }
+    ensures { OfRule nodes.entry.bytes.now nodes.entry.count from size (λ ρ. result ≡ length (text_of ρ)) }
 {
     let at = from + size - 1;
-    let root = image.node(at);
+    let root = nodes.node(at);
     if is_leaf(root.kind) {
-        return leaf_size(image, root);
+        return leaf_size(nodes, root);
     }
-    let mut end = at;
-    let mut total = opening_size(root.kind, root.arg);
+    let mut total = opening_size(root);
     let between = after_size(root.kind, false);
-    while from < end {
-        let child = image.node(end - 1);
-        let back = child.size;
-        total += around_size(root.kind, child.kind, end == at, between);
-        end -= back;
-        if is_leaf(child.kind) {
-            total += leaf_size(image, child);
+    for child in nodes.children(from, at) {
+        let node = child.node;
+        total += around_size(root.kind, node.kind, child.end == at, between);
+        if is_leaf(node.kind) {
+            total += leaf_size(nodes, node);
         } else {
-            total += text_size(image, end, back);
+            total += text_size(nodes, child.start, node.size);
         }
     }
     total

@@ -18,7 +18,8 @@ pub const TEXT_BYTES: usize = 2048;
 // What reading answers: the length of the image written, or a refusal.
 pub type Reading = Result<usize, Refusal>;
 
-// Reads a text of at most N bytes into a buffer that has room for its image.
+// Reads a text of at most N bytes into a buffer that has room for its image. The room relates the text and the lent buffer, so no type
+// of one of them has it; a type of short texts would hold the lent text, and add which text it holds to each clause.
 fn read_in<const N: usize>(text: &[u8], image: &mut [u8]) -> Reading
     requires { (length text.now ≤ N) × ((N ≤ 2048) × (4 + 13 * length text.now ≤ length image.old)) }
     ensures { outcome result image.new ≡ reading_of (read_of text.now) image.old }
@@ -48,7 +49,7 @@ pub fn read_fitting(text: &[u8], image: &mut [u8]) -> Reading
     read_in::<2048>(text, image)
 }
 
-// Reads a text into a rule image at the front of a lent buffer.
+// Reads a text into a rule image at the front of a lent buffer, which the C interface hands on: an image of its own would need a heap.
 pub fn read(text: &[u8], image: &mut [u8]) -> Reading
     ensures { outcome result image.new ≡ read_into text.now image.old }
 {

@@ -1,4 +1,5 @@
-// The line that `ruleread` prints.
+// The line that `ruleread` prints, in a lent text from a position on, as in `lines`. The casts of numbers of bytes lose nothing, and
+// there is no `From` of `usize` into `u64`; an image is an array of the size that fits any, since the library has no heap.
 #![tactic(auto)]
 
 ghost use Rattle.std.specs.Prelude.{◌+◌, ◌≤◌, length};

@@ -53,7 +53,8 @@ pub enum Cause {
     ArchiveOnly = 22,
 }
 
-// A refusal: its cause, and the place that the cause gives it.
+// A refusal: its cause, and the place that the cause gives it. Where it gives none the place is 0 and no None: document 01 has it so,
+// and C is answered it.
 #[derive(Clone, Copy, PartialEq, Eq)]
 pub struct Refusal {
     pub cause: Cause,
@@ -61,7 +62,7 @@ pub struct Refusal {
 }
 
 impl Cause {
-    // The cause's number.
+    // The cause's number: the cast gives the one beside the cause above, and a `From<Cause> for u8` would be this cast again.
     pub fn number(self) -> u8
         ensures { result ≡ number self }
     {
@@ -75,7 +76,7 @@ impl Cause {
         Refusal { cause: self, place }
     }
 
-    // The cause in a word or two.
+    // The cause in a word or two: a text that is copied into lent memory, where Display would want a formatter.
     pub fn word(self) -> &'static str
         ensures { result.now ≡ word self }
     {

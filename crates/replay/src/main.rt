@@ -1,7 +1,5 @@
-// Runs a list of cases from standard input, one on a line, and prints the answer of each on a line, and how many there are.
-// Lines that are empty or begin with `#` are passed over. A case is the name of a call and what it is given:
-// `read TEXT BUFFER`, `print IMAGE BUFFER`, `decide IMAGE STORES AGE LIST`, `check IMAGE STORES`, `judge TEXT STORES` and
-// `report TEXT ARGUMENTS`. The age and the length of the lent buffer are in decimal, and the rest in hex.
+// Runs a list of cases from standard input, one on a line, and prints the answer of each on a line, and how many there are. Lines
+// that are empty or begin with `#` are passed over. What a case is: case_lines/src/case.rt.
 #![tactic(auto)]
 
 mod run;
@@ -16,7 +14,7 @@ use std::io::{BufRead, BufReader, BufWriter, Result, Write};
 // Runs the case that a line gives.
 fn run_line<W: Write>(output: &mut W, alloc: Global, line: &[u8]) -> Result<()> {
     match case_of(alloc, line) {
-        Ok(case) => run(output, alloc, &case),
+        Ok(case) => run(output, &case),
         Err(Fault::Memory(error)) => Err(error.into()),
         Err(fault) => writeln!(output, "{fault}"),
     }

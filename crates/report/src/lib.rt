@@ -1,7 +1,6 @@
-// What a person is told of a verdict on a text.
+// What a person is told of a verdict on a text. Each function takes a page and a position in it, for the reason that `lines` gives.
 #![tactic(auto)]
 
-ghost use Rattle.std.specs.Prelude.{length};
 ghost use Rattle.slices.specs.Text.{WrittenAt};
 ghost use Rattle.store_table.specs.Stores.{entries_in};
 ghost use Rattle.page_text.specs.Report.{detail, verdict_text};
@@ -16,7 +15,7 @@ use slices::append;
 use store_table::Table;
 use verdict::Verdict;
 
-// What a refusal of a text for these stores is about.
+// What a refusal of a text for these stores is about. There is no `From` of `usize` into `u64`; the cast loses nothing.
 #[tactic(auto, using(slices::proofs::Laws::WrittenLaws::written_at_none), unfolding(page_text::specs::Report::detail_of))]
 fn append_detail(page: &mut [u8], at: usize, text: &[u8], stores: Table, f: Refusal) -> usize
     requires { Room page.old at text.now stores.bytes.now f }
@@ -46,6 +45,7 @@ fn append_detail(page: &mut [u8], at: usize, text: &[u8], stores: Table, f: Refu
         | Cause::BadImage
         | Cause::BadStoreTable
         | Cause::BadConfirmedList => at,
+        // The causes 3 to 15, which reading gives with a place in the text.
         _ => append_place(page, at, text, place),
     }
 }

@@ -1,9 +1,11 @@
-// Reads a rule from standard input and prints one line: `ok n m`, or `no number place`.
+// Reads a rule from standard input and prints one line: `ok n m`, or `no number place`. A text and a line have a longest length, so
+// arrays hold them: no memory is asked for that may be refused.
 #![tactic(auto)]
 
 use console::{READ_BYTES, fail, read_text, write_out};
 use std::process::ExitCode;
 
+// It begins as rulejudge does, with words of its own: a function for both would answer a size or an exit status, to be matched again.
 #[tactic(auto, using(console::proofs::Laws::WithinLaws::put_within, console::proofs::Laws::WithinLaws::put_counts))]
 fn main(rt: HostRuntime) -> ExitCode {
     let mut text = [0u8; READ_BYTES];

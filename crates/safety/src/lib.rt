@@ -16,8 +16,6 @@ use verdict::Verdict;
 pub fn validate_safety(image: &[u8], stores: &[u8]) -> Verdict
     ensures { (result ≡ check_of image.now stores.now) × Checked image.now stores.now result }
 {
-    let Some(image) = checked(image) else {
-        return Err(Cause::BadImage.at(0));
-    };
+    let image = checked(image).ok_or(Cause::BadImage.at(0))?;
     check_rule(image, stores)
 }

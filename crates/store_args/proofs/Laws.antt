@@ -1,2 +1,3 @@
 pub mod ArgumentsLaws
+pub mod ColonLaws
 pub mod SplitLaws

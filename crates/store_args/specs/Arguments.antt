@@ -17,6 +17,13 @@ unfoldable pub arguments_in : List ℕ → List (List ℕ)
 arguments_in [] = []
 arguments_in (b ∷ s) = let ws = arguments_in s in cond (eqb b 0) ([] ∷ ws) (onto_first b ws)
 
+-- what is wrong with an argument, as a person reads it
+abbrev pub fault_text : Fault → List ℕ
+fault_text NoColon = bytes "no colon; a store is given as name:mode"
+fault_text NoMode = bytes "no such mode; it is read-write, read-only or write-only"
+fault_text LongName = bytes "too long; a name has at most 255 bytes"
+fault_text ForeignName = bytes "a name has a byte that is not ASCII"
+
 -- a store of this mode and name, or what is wrong with the argument
 unfoldable pub named : ℕ → List ℕ → Result Entry Fault
 named mode name =

@@ -3,11 +3,11 @@
 
 ghost use Rattle.std.specs.Prelude.{◌≡◌, [], length, MatchOption};
 ghost use Rattle.std.specs.Iterator.{YieldsFirstRef, item_count};
-ghost use Rattle.store_args.specs.Arguments.{named, mode_tested, given_by, arguments_in};
+ghost use Rattle.store_args.specs.Arguments.{fault_text, named, mode_tested, given_by, arguments_in};
 ghost use Rattle.store_args.specs.Inner.Filling.{given, FirstOf};
 
 use ascii::eq;
-use slices::{ascii_from, end_of_last, mark_at};
+use slices::{ascii_from, mark_at};
 use store_table::{READ_ONLY, READ_WRITE, WRITE_ONLY};
 
 // The bytes that any table fits in.
@@ -22,6 +22,21 @@ pub enum Fault {
     ForeignName,
 }
 
+impl Fault {
+    // What is wrong, as a person reads it. By hand, and not by `Display`: these bytes are copied into a lent page, for the reason that
+    // `lines` gives.
+    pub fn text(self) -> &'static [u8]
+        ensures { result.now ≡ fault_text self }
+    {
+        match self {
+            Fault::NoColon => b"no colon; a store is given as name:mode",
+            Fault::NoMode => b"no such mode; it is read-write, read-only or write-only",
+            Fault::LongName => b"too long; a name has at most 255 bytes",
+            Fault::ForeignName => b"a name has a byte that is not ASCII",
+        }
+    }
+}
+
 // The first argument that is wrong, counted from 1, and what is wrong with it.
 #[derive(Clone, Copy, PartialEq, Eq)]
 pub struct WrongArgument {
@@ -29,7 +44,8 @@ pub struct WrongArgument {
     pub fault: Fault,
 }
 
-// A store that an argument gives.
+// A store that an argument gives. The mode is a table's byte: it is named once, in `mode_tested`, and copied into the table; an enum
+// would be turned into that byte again.
 #[derive(Clone, Copy)]
 pub struct Store<'a> {
     pub mode: u8,
@@ -50,7 +66,8 @@ fn name_tested(name: &[u8], mode: u8) -> Result<Store<'_>, Fault>
     Ok(Store { mode, name })
 }
 
-// The store of a name, and of the mode that a word names.
+// The store of a name, and of the mode that a word names. With a match on the word's bytes the proof does not close for any other
+// word, since there is a case for each byte that may differ.
 #[tactic(auto, unfolding(crate::specs::Arguments::mode_tested))]
 fn mode_tested<'a>(word: &[u8], name: &'a [u8]) -> Result<Store<'a>, Fault>
     ensures { given result ≡ mode_tested word.now name.now }
@@ -68,27 +85,27 @@ fn mode_tested<'a>(word: &[u8], name: &'a [u8]) -> Result<Store<'a>, Fault>
 }
 
 // The store that an argument gives.
-#[tactic(auto, using(slices::proofs::Laws::SearchLaws::last_le), unfolding(crate::specs::Arguments::given_by, crate::specs::Arguments::colon_tested))]
+#[tactic(auto, unfolding(crate::specs::Arguments::given_by, crate::specs::Arguments::colon_tested))]
 pub fn given_by(arg: &[u8]) -> Result<Store<'_>, Fault>
     ensures { given result ≡ given_by arg.now }
 {
     if 266 < arg.len() {
         return Err(Fault::LongName);
     }
-    let from = end_of_last(arg, arg.len(), b':', b':');
-    if from == 0 {
+    let Some(colon) = arg.iter().rposition(|b| *b == b':') else {
         return Err(Fault::NoColon);
-    }
-    mode_tested(&arg[from..], &arg[..from - 1])
+    };
+    mode_tested(&arg[colon + 1..], &arg[..colon])
 }
 
 // The first argument and the arguments after it, without the 0 between them; none where there are no arguments.
-fn split_first(args: &[u8]) -> Option<(&[u8], &[u8])>
+fn first_and_rest(args: &[u8]) -> Option<(&[u8], &[u8])>
     ensures { MatchOption result (arguments_in args.now ≡ []) (λ p. FirstOf args.now p.0.now p.1.now) }
 {
     if args.is_empty() {
         return None;
     }
+    // The arguments' length where there is no 0 left, which is where the last argument ends.
     let stop = mark_at(args, 0, 0);
     if stop < args.len() {
         return Some((&args[..stop], &args[stop + 1..]));
@@ -96,7 +113,8 @@ fn split_first(args: &[u8]) -> Option<(&[u8], &[u8])>
     Some((&args[..stop], &args[stop..]))
 }
 
-// The arguments, one after the other.
+// The arguments, one after the other. The library's `split` would give one more, empty, after the last 0, and `split_inclusive` each
+// with its 0.
 #[derive(Drop)]
 pub struct Arguments<'a>(pub &'a [u8]);
 
@@ -108,7 +126,7 @@ impl<'a> Iterator for Arguments<'a> {
     ghost remaining = { item_count (λ s. arguments_in s.0.now) };
 
     fn next(&mut self) -> Option<&'a [u8]> {
-        let (first, rest) = split_first(self.0)?;
+        let (first, rest) = first_and_rest(self.0)?;
         self.0 = rest;
         Some(first)
     }

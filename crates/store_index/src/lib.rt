@@ -9,7 +9,8 @@ use lookup::hash::hash_of;
 use lookup::index::Index;
 use store_table::Table;
 
-// The lowest index of a store whose name an earlier store has; where there is none, the table is indexed.
+// The lowest index of a store whose name an earlier store has; where there is none, the table is indexed. An Option, as the
+// definition's answer is: its caller, `decide::indexed_stores`, makes the index a refusal's place.
 pub fn twin_of(table: Table, index: &mut Index) -> Option<usize>
     requires { Blank index.old.slots }
     ensures { (result ≡ twin_of (entries_in table.entry.bytes.now)) × (result ≡ None → IndexedAll table.entry.bytes.now index.new.starts index.new.slots) }

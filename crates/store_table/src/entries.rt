@@ -46,6 +46,7 @@ impl<'a> Iterator for Entries<'a> {
 
 impl<'a> Table<'a> {
     // All entries.
+    #[tactic(auto, using(crate::proofs::Laws::WalkLaws::name_start_first))]
     pub fn entries(self) -> Entries<'a>
         ensures { (result.table.bytes.now ≡ self.entry.bytes.now) × (result.index ≡ 0) }
     {

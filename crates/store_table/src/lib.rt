@@ -3,12 +3,12 @@
 
 pub mod entries;
 
-ghost use Rattle.std.specs.Prelude.{◌≡◌, ◌<◌, ◌+◌, ◌≤◌, drop, length, true, false, MatchOption};
+ghost use Rattle.std.specs.Prelude.{◌≡◌, ◌<◌, ◌≤◌, drop, length, true, false, MatchOption};
 ghost use Rattle.slices.specs.Text.{AllBytes};
 ghost use Rattle.store_table.specs.Names.{same_name};
 ghost use Rattle.store_table.specs.Stores.{Entry, is_readable, sum, all_at_most, well_made, is_table, is_list, count_in, entries_in, names_start};
 ghost use Rattle.store_table.specs.Inner.Bounds.{TableInBounds};
-ghost use Rattle.store_table.specs.Inner.Index.{EntryAt, NameAt, length_at, name_start_at};
+ghost use Rattle.store_table.specs.Inner.Index.{EntryAt, EntryWalk, NameAt, length_at};
 
 use little_endian::read;
 use slices::ascii_from;
@@ -28,7 +28,7 @@ pub const READ_ONLY: u8 = 1;
 
 pub const WRITE_ONLY: u8 = 2;
 
-// Whether two names of the same length are the same from a position on.
+// Whether two names of the same length are the same from a position on. With `a[at..] == b[at..]` deciding takes 7 to 31 % longer.
 fn same_from(a: &[u8], b: &[u8], at: usize) -> bool
     requires { length a.now ≡ length b.now }
     ensures { result ≡ same_name (drop at a.now) (drop at b.now) }
@@ -41,22 +41,21 @@ fn same_from(a: &[u8], b: &[u8], at: usize) -> bool
     true
 }
 
-// Whether two names are the same: eight bytes at a time, then byte by byte. With `a == b` deciding for 64 stores takes up to half as
-// long again.
+// Whether two names are the same: eight bytes at a time, then byte by byte. With `a == b` deciding for 64 stores takes up to half as long
+// again.
 pub fn same_name(a: &[u8], b: &[u8]) -> bool
     ensures { result ≡ same_name a.now b.now }
 {
     if a.len() != b.len() {
         return false;
     }
-    let mut i = 0;
-    while i + 8 <= a.len() {
-        if read::<8>(a, i) != read::<8>(b, i) {
+    let words = a.len() / 8;
+    for k in 0..words {
+        if read::<8>(a, 8 * k) != read::<8>(b, 8 * k) {
             return false;
         }
-        i += 8;
     }
-    same_from(a, b, i)
+    same_from(a, b, 8 * words)
 }
 
 // Whether a store of this mode is read in normal running.
@@ -64,6 +63,14 @@ pub fn is_readable(mode: u8) -> bool
     ensures { result ≡ is_readable mode }
 {
     mode <= READ_ONLY
+}
+
+// Where the names of a table or a list of this many entries begin.
+pub fn names_start(count: usize) -> usize
+    requires { count ≤ 64 }
+    ensures { result ≡ names_start count }
+{
+    MODES_START + 2 * count
 }
 
 // The sum of at most 64 bytes.
@@ -81,7 +88,8 @@ fn all_at_most(bytes: &[u8], most: u8) -> bool
     bytes.iter().all(|x| *x <= most)
 }
 
-// Whether the bytes are a well-made table or list, with modes of at most `most`.
+// Whether the bytes are a well-made table or list, with modes of at most `most`. The casts of numbers of two bytes, here and in `count`,
+// lose nothing, and there is no `From` of `u64` into `usize`.
 #[tactic(auto, using(crate::proofs::Laws::StoresLaws::unmade_many, crate::proofs::Laws::StoresLaws::unmade_sum))]
 fn well_made(s: &[u8], most: u8) -> bool
     ensures { result ≡ well_made most s.now }
@@ -117,26 +125,29 @@ pub struct Table<'a> {
 }
 
 impl<'a> Table<'a> {
-    // The table that the bytes are, where they are a well-made store table.
-    pub fn of_stores(bytes: &'a [u8]) -> Option<Table<'a>>
-        ensures { MatchOption result (is_table bytes.now ≡ false) (λ t. (is_table bytes.now ≡ true) × (t.bytes.now ≡ bytes.now)) }
+    // The table that the bytes are, where they are a well-made one with modes of at most `most`.
+    fn of(bytes: &'a [u8], most: u8) -> Option<Table<'a>>
+        ensures { MatchOption result (well_made most bytes.now ≡ false) (λ t. (well_made most bytes.now ≡ true) × (t.bytes.now ≡ bytes.now)) }
     {
-        if well_made(bytes, WRITE_ONLY) {
+        if well_made(bytes, most) {
             Some(Table { bytes })
         } else {
             None
         }
     }
 
+    // The table that the bytes are, where they are a well-made store table.
+    pub fn of_stores(bytes: &'a [u8]) -> Option<Table<'a>>
+        ensures { MatchOption result (is_table bytes.now ≡ false) (λ t. (is_table bytes.now ≡ true) × (t.bytes.now ≡ bytes.now)) }
+    {
+        Table::of(bytes, WRITE_ONLY)
+    }
+
     // The list that the bytes are, where they are a well-made confirmed list.
     pub fn of_list(bytes: &'a [u8]) -> Option<Table<'a>>
         ensures { MatchOption result (is_list bytes.now ≡ false) (λ t. (is_list bytes.now ≡ true) × (t.bytes.now ≡ bytes.now)) }
     {
-        if well_made(bytes, READ_WRITE) {
-            Some(Table { bytes })
-        } else {
-            None
-        }
+        Table::of(bytes, READ_WRITE)
     }
 
     // How many entries there are.
@@ -146,7 +157,7 @@ impl<'a> Table<'a> {
         read::<2>(self.bytes, COUNT_START) as usize
     }
 
-    // The mode of entry k.
+    // The mode of entry k. Here and below k is a number with a bound: a type for it would have to hold the table too.
     pub fn mode(self, k: usize) -> u8
         requires { k < count_in self.bytes.now }
         ensures { (x : Entry) → EntryAt (entries_in self.entry.bytes.now) k x → result ≡ x.mode }
@@ -159,19 +170,20 @@ impl<'a> Table<'a> {
         requires { k < count_in self.bytes.now }
         ensures { (result ≡ length_at self.entry.bytes.now k) × (result < 256) }
     {
-        usize::from(self.bytes[MODES_START + self.count() + k])
+        let count = self.count();
+        usize::from(self.bytes[MODES_START + count + k])
     }
 
     // Where the names begin.
     pub fn names_start(self) -> usize
-        ensures { (result ≡ name_start_at self.entry.bytes.now 0) × (result ≤ 132) }
+        ensures { (result ≡ names_start (count_in self.entry.bytes.now)) × (result ≤ 132) }
     {
-        MODES_START + 2 * self.count()
+        names_start(self.count())
     }
 
     // The name of entry k, which begins at `start`.
     pub fn name(self, k: usize, start: usize) -> &'a [u8]
-        requires { (k < count_in self.bytes.now) × (start ≡ name_start_at self.bytes.now k) }
+        requires { (k < count_in self.bytes.now) × EntryWalk self.bytes.now (count_in self.bytes.now) k start }
         ensures { NameAt self.entry.bytes.now k start result.now }
     {
         let end = start + self.name_length(k);

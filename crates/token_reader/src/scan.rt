@@ -7,15 +7,15 @@ ghost use Rattle.tokens.specs.Inner.Bounds.{last_of};
 use classes::{Class, class_of};
 use refusals::Refusal;
 use signs::next_of;
-use slices::{largest_from, run_end};
+use slices::{ascii_from, run_end};
 use tokens::{Token, token_at};
 
-// Where the first foreign byte is, or the text's length.
+// Where the first foreign byte is, or the text's length: a public promise, in the words of the definitions, which take the end of a run.
 #[tactic(auto, using(tokens::proofs::Laws::ForeignLaws::none_foreign), unfolding(tokens::specs::Token::ascii))]
 pub fn foreign_at(text: &[u8]) -> usize
     ensures { result ≡ run_end ascii text.now 0 }
 {
-    if largest_from(text, 0) < 128 {
+    if ascii_from(text, 0) {
         return text.len();
     }
     run_end(text, 0, |b| class_of(b) != Class::Foreign)

@@ -1,4 +1,5 @@
-// The tokens of a text: which token is at a position.
+// The tokens of a text: which token is at a position. No struct holds text and position: it would take `p < length text` from four
+// functions, but give each that makes one a clause about its text, as token_reader's `WordReader` shows.
 #![tactic(auto)]
 
 ghost use Rattle.std.specs.Prelude.{◌≡◌, ◌≤◌, ◌<◌, length};
@@ -20,7 +21,8 @@ pub struct Word {
     pub next: usize,
 }
 
-// A token: its place, and where the text continues after it. A fault is the refusal 4, 5 or 6.
+// A token. A case holds its place and where the text continues: in a struct around them the end and a fault would have the latter too.
+// A fault, which is the refusal 4, 5 or 6, is a case and no Err: the tokens of a text end with it, as the definitions list them.
 #[derive(Clone, Copy, PartialEq, Eq)]
 pub enum Token {
     End { place: usize },

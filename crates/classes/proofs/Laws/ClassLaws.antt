@@ -9,7 +9,7 @@ use native.Mathlib.Nat.{not-suc-le-zero, le_of_suc-le-suc, eq-or-lt_of_le}
 use native.Mathlib.Omega.{arith}
 use lib.Dec.{T, eqb, eqb→eq}
 use lib.ListN.{get_or}
-use Rattle.ascii.proofs.Laws.TestLaws.{is_so, is_not}
+use Rattle.ascii.proofs.Laws.TestLaws.{is_so}
 use Rattle.classes.specs.Class.{class_of, of_class}
 use Rattle.classes.specs.Inner.ClassNumber.{class_number}
 use Rattle.classes.specs.declared.Class.{Class}
@@ -41,7 +41,3 @@ module _ {x k : ℕ} (b : ℕ) (e : x ≡ class_of b) where
   pub of_class_lem : x ≡ k → of_class k b ≡ true
   unfolding of_class
   of_class_lem h = is_so e refl h
-
-  pub not_of_class : (x ≡ k → ⊥) → of_class k b ≡ false
-  unfolding of_class
-  not_of_class h = is_not e refl h

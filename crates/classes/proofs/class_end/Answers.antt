@@ -6,4 +6,4 @@ use Rattle.classes.proofs.class_end.Goals as goal
 
 pub returns : goal.returns
 unfolding of_class
-returns c = c.run_end.ensures (of_class (class_number c.args.k)) (λ b r l e. search rules)
+returns c = c.run_end.ensures (of_class (class_number c.args.class)) (λ b r l e. search rules)

@@ -14,14 +14,20 @@ use Rattle.image.specs.Layout.{node_count_in}
 use Rattle.image.specs.Decode.{cell_at, decode}
 use Rattle.image.specs.Inner.Valid.{is_some}
 use Rattle.image.proofs.Laws.FitLaws.{is_some_true, is_some_false}
-use Rattle.store_table.specs.Stores.{is_table, is_list, entries_in, twin_of}
-use Rattle.std.specs.Prelude.{None, Some, Err}
+use Rattle.store_table.specs.Stores.{is_table, is_list, entries_in, twin_of, ready_count}
+use Rattle.std.specs.Prelude.{None, Option, Some, Result, Err}
+use Rattle.std.specs.Option.{ok_or}
 use Rattle.image.specs.Inner.EncodedAt.{EncodedAt}
 use Rattle.evaluate.specs.Evict.{env_of, evict}
 use Rattle.evaluate.specs.Inner.Known.{env_in}
 use Rattle.decide.specs.Decide.{decision_of, list_names, decide_of}
 use Rattle.decide.proofs.Laws.DecideLaws.{decide_rule_lem, decide_16, decide_19, decide_says}
 use Rattle.image.proofs.Laws.InsideLaws.{decode_whole}
+
+-- what `ok_or` refuses, where there is none, is the refusal that it is given
+pub refused_none : {A B : Type 0} {o : Option A} {e f g : Refusal} → ◌≡◌ {A = Result A Refusal} (Err e) (ok_or o f) → o ≡ None → f ≡ g →
+    ◌≡◌ {A = Result B Refusal} (Err e) (Err g)
+refused_none {e = e} {f = f} v none p = let q : e ≡ f = cc (rw none at v) in rw (q, p)
 
 -- of bytes i, s and l, and an age a
 module _ (i s : List ℕ) (a : ℕ) (l : List ℕ) where
@@ -44,9 +50,10 @@ module _ (i s : List ℕ) (a : ℕ) (l : List ℕ) where
         refused_19 e = let (r, p) = is_some_true (decode i) image in sym (decide_19 i s a l p table no_twin e)
 
         -- b is the answer of whatever rule has all n nodes
-        pub answered : {n : ℕ} → is_list l ≡ true → n ≡ node_count_in i → (b : Bool) →
-            ((r : Rule) → size r ≡ n → EncodedAt r (cell_at i n) 0 → b ≡ evict r (env_in s a l)) → decision_of b ≡ decide_of i s a l
-        answered is p b says =
+        pub answered : {n ready : ℕ} → is_list l ≡ true → n ≡ node_count_in i → ready ≡ ready_count (entries_in s) (list_names l) → (b : Bool) →
+            ((r : Rule) → size r ≡ n → EncodedAt r (cell_at i n) 0 → b ≡ evict r (env_in l a ready)) → decision_of b ≡ decide_of i s a l
+        answered is p c b says =
             let (r, e) = is_some_true (decode i) image in
             let w = decode_whole i p e in
-            ap decision_of (says r w.sized w.stands) ∙ sym (decide_says i s a l e table no_twin is)
+            let q = rw c at (says r w.sized w.stands) in
+            ap decision_of q ∙ sym (decide_says i s a l e table no_twin is)

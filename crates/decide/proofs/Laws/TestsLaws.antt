@@ -17,15 +17,6 @@ by_found b t = first_refusal Some (cond b None (Some (refusal BadStoreTable 0)) 
 
 -- of stores s
 module _ (s : List ℕ) where
-  pub no_table : is_table s ≡ false → stores_test s ≡ Some (refusal BadStoreTable 0)
-  no_table e = rw e
-
-  pub a_twin : {n : ℕ} → is_table s ≡ true → twin_of (entries_in s) ≡ Some n → stores_test s ≡ Some (refusal TwinName n)
-  a_twin table e = rw (table, e)
-
-  pub none_refused : is_table s ≡ true → twin_of (entries_in s) ≡ None → stores_test s ≡ None
-  none_refused table e = rw (table, e)
-
   -- none refuses
   module _ (passed : stores_test s ≡ None) where
     found : (b : Bool) (t : Option ℕ) → by_found b t ≡ None → (b ≡ true) × (t ≡ None)

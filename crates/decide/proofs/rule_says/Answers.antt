@@ -1,7 +1,6 @@
 -- `decide::rule_says` meets its contract: an image has at most 2,048 nodes. Assumes nothing.
 use native.Mathlib.Omega.{arith}
-use Rattle.image.proofs.Laws.WholeLaws.{few}
 use Rattle.decide.proofs.rule_says.Goals as goal
 
 pub rule_says_within-requires-2 : goal.rule_says_within-requires-2
-rule_says_within-requires-2 c = (few c.args.image, omega arith)
+rule_says_within-requires-2 c = (c.requires, omega arith)

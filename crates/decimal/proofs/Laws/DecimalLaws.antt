@@ -1,15 +1,13 @@
--- Laws of decimal numbers: what a digit is, the digits of a part one by one, and how large a number they write. Assumes nothing.
+-- Laws of decimal numbers: what a digit is, and how large a number digits write. Assumes nothing.
 use mathlib.Core.Path.{◌≡◌, refl}
 use mathlib.Core.Bool.{Bool, true, false, cond, and-eq-true_iff}
 use mathlib.Core.List.{List, [], ◌∷◌}
 use Prim.Native.Nat.{ℕ, zero, suc, ◌+◌, ◌-◌, ◌*◌, ◌^◌, ◌≤◌, ◌<◌}
 use native.Mathlib.Nat.{mul-le-mul_left, mul-le-mul_right, mul_assoc, one-le-pow, pow-succ'}
-use native.Mathlib.Numerals.{add-one}
 use native.Mathlib.Omega.{arith}
 use borrow.Author.Tests.{leb-true}
 use lib.Dec.{leb}
-use lib.ListN.{length, take, drop, get_or}
-use lib.Seq.{drop-cons}
+use lib.ListN.{take, drop}
 use Rattle.ascii.specs.Letters.{is_digit}
 use Rattle.slices.specs.Text.{part, run, run_end}
 use Rattle.decimal.specs.Decimal.{digit_value, decimal_from, decimal}
@@ -20,18 +18,6 @@ unfolding is_digit
 digit_within b h =
     let l = (and-eq-true_iff (leb 48 b) (leb b 57)).0 h in
     (leb-true 48 b l.0, leb-true b 57 l.1)
-
--- the digits of a part, one by one
-module _ (n : ℕ) (w : List ℕ) (i to : ℕ) where
-  pub decimal_end : to ≤ i → decimal_from n (part w i to) ≡ n
-  unfolding decimal_from part
-  decimal_end h = let e : to - i ≡ 0 = omega arith in rw e
-
-  pub decimal_on : i < to → to ≤ length w → decimal_from n (part w i to) ≡ decimal_from (n * 10 + digit_value (get_or w i 0)) (part w (i + 1) to)
-  unfolding decimal_from part
-  decimal_on h k =
-      let e : to - i ≡ suc (to - (i + 1)) = omega arith in
-      rw (e, drop-cons w i 0 (omega arith), add-one i)
 
 -- more digits make no smaller number
 pub decimal_ge : (n : ℕ) (ds : List ℕ) → n ≤ decimal_from n ds
@@ -66,7 +52,3 @@ module _ (w : List ℕ) (at : ℕ) {to : ℕ} (e : run_end is_digit w at ≡ to)
   decimal_small =
       let r : to - at ≡ run is_digit (drop at w) = omega arith in
       rw r (run_small (drop at w) 9 0 (omega arith))
-
-  -- and so do the first of them: the others, read after those, write the same number
-  pub head_small : (n i : ℕ) → decimal_from n (part w i to) ≡ decimal (part w at to) → n < 10 ^ 9
-  head_small n i q = omega (arith, decimal_ge n (part w i to), decimal_small)

@@ -2,8 +2,8 @@
 use mathlib.Core.Path.{◌≡◌, refl, sym, ap, ◌∙◌}
 use mathlib.Core.Bool.{Bool, true, false}
 use mathlib.Core.List.{List, [], ◌∷◌, ◌++◌, append-nil}
-use Prim.Native.Nat.{ℕ, zero, suc, ◌+◌, ◌-◌, ◌*◌, ◌/◌, ◌%◌, ◌^◌, ◌≤◌, ◌<◌}
-use native.Mathlib.Nat.{pow-suc}
+use Prim.Native.Nat.{ℕ, zero, suc, ◌+◌, ◌-◌, ◌*◌, ◌/◌, ◌%◌, ◌^◌, ◌≤◌, ◌<◌, max}
+use native.Mathlib.Nat.{pow-suc, one-le-pow}
 use native.Mathlib.Omega.{arith}
 use borrow.Author.Tests.{ltb-true, ltb-false, lt-ltb, le-ltb}
 use lib.Dec.{ltb}
@@ -110,7 +110,7 @@ pub digits_last : (n : ℕ) → 10 ≤ n → n < 2 ^ 64 → digits_of n ≡ digi
 unfolding digits_of
 digits_last n l h = rw (in_last 19 n l, in_more 18 (n / 10) (front_small 19 n (omega arith)))
 
--- read back they give the number
+-- read back they give the number: a law of the definitions alone, which no contract needs
 pub digits_read : (n : ℕ) → n < 2 ^ 64 → decimal (digits_of n) ≡ n
 unfolding digits_of
 digits_read n h = in_read 20 n (omega arith)
@@ -118,6 +118,19 @@ digits_read n h = in_read 20 n (omega arith)
 -- one more than a tenth of the number has
 pub digits_more : (n : ℕ) → 10 ≤ n → n < 2 ^ 64 → length (digits_of n) ≡ length (digits_of (n / 10)) + 1
 digits_more n l h = rw (digits_last n l h) (length-append (digits_of (n / 10)) (digit (n % 10) ∷ []))
+
+-- one more than the whole logarithm of the number has
+pub digits_log : (k n : ℕ) → 10 ^ k ≤ n → n < 10 * 10 ^ k → n < 2 ^ 64 → length (digits_of n) ≡ k + 1
+digits_log zero n l h m = rw (digits_one n (omega arith)) (omega arith)
+digits_log (suc k) n l h m =
+    let p = pow-suc 10 k in
+    let q : 1 ≤ 10 ^ k = one-le-pow k 10 (omega arith) in
+    omega (arith, digits_more n (omega arith) m, digits_log k (n / 10) (omega arith) (omega arith) (omega arith))
+
+-- and 0 has as many as 1
+pub digits_max : (n : ℕ) → length (digits_of n) ≡ length (digits_of (max n 1))
+digits_max zero = rw (digits_one 0 (omega arith), digits_one 1 (omega arith))
+digits_max (suc n) = let e : max (suc n) 1 ≡ suc n = omega arith in rw e
 
 -- ---- the digits of n written into a text up to `end`, the last one first: those of `left` are still to be written, and the
 -- others are in the text from `at` on

@@ -37,7 +37,7 @@ of-rule-requires c =
 
 -- how many nodes it has
 counted : (c : After-of-rule) → c.of-rule.result.nodes ≡ node_count_in (take c.in-Ok.size c.read.new.image)
-counted c = rw c.of-rule.ensures at c.of-rule.result.counted
+counted c = c.of-rule.ensures.1
 
 pub returns-then-rule-index : goal.returns-then-rule-index
 unfolding shown_all
@@ -50,17 +50,17 @@ name-requires c = its_name c.of-rule.result _ c.node-node.ensures c.if-rule-inde
 pub append_shown-requires : goal.append_shown-requires
 append_shown-requires c =
     let within = its_name c.of-rule.result _ c.node-node.ensures c.if-rule-index.false c.if-named.true in
-    let short : length c.of-rule.result.bytes.now ≤ 26_628 = rw c.of-rule.ensures (taken_short (the_rule (goal.at.append_shown-requires c).In-Ok)) in
+    let short : length c.of-rule.result.bytes.now ≤ 26_628 = rw c.of-rule.ensures.0 (taken_short (the_rule (goal.at.append_shown-requires c).In-Ok)) in
     rw c.name.ensures (simp length-take (omega (arith, short, within)))
 
 pub returns-then-named : goal.returns-then-named
 returns-then-named c =
     rw (name_here (the_rule (goal.at.returns-then-named c).In-Ok) (counted (goal.at.returns-then-named c).After-of-rule)
-    (rw c.of-rule.ensures at c.node-node.ensures) c.if-rule-index.false c.if-named.true (rw c.of-rule.ensures at c.name.ensures))
+    (rw c.of-rule.ensures.0 at c.node-node.ensures) c.if-rule-index.false c.if-named.true (rw c.of-rule.ensures.0 at c.name.ensures))
     c.append_shown.ensures
 
 pub returns : goal.returns
 unfolding shown_all
 returns c =
     rw (name_not (the_rule (goal.at.returns c).In-Ok) (counted (goal.at.returns c).After-of-rule)
-    (rw c.of-rule.ensures at c.node-node.ensures) c.if-rule-index.false c.if-named.false) (written_at_none _ _)
+    (rw c.of-rule.ensures.0 at c.node-node.ensures) c.if-rule-index.false c.if-named.false) (written_at_none _ _)

@@ -1,16 +1,14 @@
--- Laws of printed durations: a part that is zero and one that is not, the parts in a row, whole days, how long
--- they are at most, and zero as two stores. Assumes nothing.
+-- Laws of printed durations: a part that is zero and one that is not, the parts in a row, whole days, and how long
+-- they are at most. Assumes nothing.
 use mathlib.Core.Path.{◌≡◌, refl, ◌∙◌}
-use mathlib.Core.List.{List, [], ◌∷◌, ◌++◌, append-nil, append_assoc}
+use mathlib.Core.List.{List, [], ◌++◌, append-nil}
 use mathlib.Core.Logic.{◌≢◌}
-use Prim.Native.Nat.{ℕ, zero, suc, ◌+◌, ◌-◌, ◌≤◌, ◌/◌, ◌%◌}
-use native.Mathlib.Numerals.{add-one}
+use Prim.Native.Nat.{ℕ, zero, suc, ◌+◌, ◌≤◌, ◌/◌, ◌%◌}
 use native.Mathlib.Omega.{arith}
-use lib.ListN.{length, set, length-append}
-use Rattle.slices.specs.Text.{bytes, WrittenAt}
+use lib.ListN.{length, length-append}
+use Rattle.slices.specs.Text.{bytes}
 use Rattle.decimal.specs.Digits.{digits_of}
 use Rattle.duration_text.specs.DurationText.{part_text, duration_text}
-use Rattle.slices.proofs.Laws.WrittenLaws.{written_sets}
 use Rattle.decimal.proofs.Laws.DigitsLaws.{digits_short, digits_below}
 
 -- ---- a part
@@ -36,14 +34,6 @@ module _ (unit : List ℕ) where
   part_at_most zero = omega arith
   part_at_most (suc k) = rw length-append (omega arith)
 
-  -- and has at most 20 digits
-  pub part_short : (k : ℕ) → length (part_text k unit) ≤ 20 + length unit
-  part_short k = omega (arith, part_at_most k, digits_short k)
-
--- milliseconds are printed as minutes are, and an s after that
-pub millis_split : (k : ℕ) → k ≢ 0 → part_text k (bytes "ms") ≡ part_text k (bytes "m") ++ bytes "s"
-millis_split k e = rw (part_nonzero (bytes "ms") k e, part_nonzero (bytes "m") k e, append_assoc)
-
 -- ---- a duration: its parts, the first one first
 module _ (ms : ℕ) where
   abbrev pub days_text : List ℕ
@@ -66,11 +56,6 @@ pub duration_zero : (ms : ℕ) → ms ≡ 0 → duration_text ms ≡ bytes "0s"
 unfolding duration_text
 duration_zero zero e = refl
 duration_zero (suc k) e = absurd (omega arith)
-
--- its two bytes, each stored
-pub written_at_pair : (s : List ℕ) (end a b : ℕ) → 2 ≤ end → end ≤ length s →
-    WrittenAt s (set (set s (end - 2) a) (end - 2 + 1) b) (end - 2) end (a ∷ b ∷ [])
-written_at_pair s end a b l h = record { ends = omega arith; text = rw add-one (written_sets s (end - 2) (a ∷ b ∷ []) (omega arith)) }
 
 -- any other is its parts in a row
 pub duration_parts : (ms : ℕ) → ms ≢ 0 → duration_text ms ≡ days_text ms ++ (hours_text ms ++ (minutes_text ms ++ (seconds_text ms ++ millis_text ms)))

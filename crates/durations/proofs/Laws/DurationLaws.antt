@@ -1,26 +1,28 @@
 -- Laws of durations: the bytes of a unit's name, a part by where its digits end and its unit's name begins and ends, how large it is, and
 -- the parts unit by unit. Assumes nothing.
 use mathlib.Core.Path.{◌≡◌, refl, sym, ap, ◌∙◌}
-use mathlib.Core.Bool.{Bool, true, false, not, ◌&&◌, ◌||◌, and-false, and-eq-true_iff}
+use mathlib.Core.Bool.{Bool, true, false, cond, not, ◌&&◌, ◌||◌, and-false, and-eq-true_iff}
 use mathlib.Core.List.{List, [], ◌∷◌}
-use mathlib.Core.Logic.{◌≢◌}
-use Prim.Native.Nat.{ℕ, zero, suc, ◌+◌, ◌*◌, ◌^◌, ◌≤◌, ◌<◌, max}
+use Prim.Native.Nat.{ℕ, zero, suc, ◌+◌, ◌-◌, ◌*◌, ◌^◌, ◌≤◌, ◌<◌, max}
 use native.Mathlib.Nat.{mul-le-mul, le_of_lt, zero-add, add_assoc}
 use native.Mathlib.Numerals.{add-one}
 use native.Mathlib.Omega.{arith}
 use borrow.Author.Tests.{leb-true, lt-ltb, le-ltb, le-leb, lt-leb}
 use lib.Dec.{eqb, leb, ltb}
-use lib.ListN.{length, drop, get_or, drop_of_length-le}
+use lib.ListN.{length, take, drop, get_or, drop_of_length-le}
 use lib.Seq.{drop-cons}
 use Rattle.ascii.specs.Letters.{is_digit, equal}
-use Rattle.slices.specs.Text.{part, run_end}
+use Rattle.slices.specs.Text.{part, run, run_end}
 use Rattle.slices.proofs.Laws.TextLaws.{end_ge, end_le}
 use Rattle.classes.specs.Class.{class_of, of_class, blank}
-use Rattle.decimal.specs.Decimal.{decimal}
+use Rattle.decimal.specs.Count.{all_digits}
+use Rattle.decimal.specs.Decimal.{digit_value, decimal_from, decimal}
 use Rattle.decimal.proofs.Laws.DecimalLaws.{decimal_small}
 use Rattle.durations.specs.Duration.{NamedUnit, unit, units, is_unit_byte, digits_end, unit_start, unit_end, is_part, amount_of, next_part, part_at, plus, part_then, parts_from, duration_of}
-use Rattle.durations.specs.Inner.Units.{unit_at}
-use Rattle.std.specs.Prelude.{Option, Some, None}
+use Rattle.durations.specs.Inner.Units.{unit_at, unit_of}
+use Rattle.durations.specs.declared.unit.TimeUnit.{TimeUnit}
+use Rattle.std.proofs.lemmas.List.{get_or-map, length-map}
+use Rattle.std.specs.Prelude.{Option, Some, None, map}
 use Rattle.durations.specs.declared.duration.Part.{Part}
 
 -- ---- the bytes of a unit's name
@@ -33,9 +35,39 @@ module _ (b : ℕ) where
   unfolding is_unit_byte
   unit_other d e = ap (λ (v : Bool). not (v || of_class blank b)) d ∙ ap (λ (k : ℕ). not (eqb k blank)) (sym e)
 
--- ---- units: the last rank
-pub last_rank : (rank : ℕ) → rank < length units → rank ≢ 0 → rank ≢ 1 → rank ≢ 2 → rank ≢ 3 → rank ≢ 4 → rank ≡ 5
-last_rank rank h n₀ n₁ n₂ n₃ n₄ = omega arith
+-- ---- the digits of a part
+run_all_step : (v : Bool) (b n : ℕ) (s : List ℕ) → is_digit b ≡ v → all_digits (take n s) ≡ true → all_digits (take (cond v (suc n) 0) (b ∷ s)) ≡ true
+unfolding all_digits
+run_all_step true b n s e h = rw e h
+run_all_step false b n s e h = refl
+
+run_all : (s : List ℕ) → all_digits (take (run is_digit s) s) ≡ true
+unfolding all_digits run
+run_all [] = refl
+run_all (b ∷ s) = run_all_step (is_digit b) b (run is_digit s) s refl (run_all s)
+
+pub run_digits : (w : List ℕ) (at : ℕ) {to : ℕ} → to ≡ run_end is_digit w at → all_digits (take (to - at) (drop at w)) ≡ true
+unfolding run_end
+run_digits w at {to} e = let r : to - at ≡ run is_digit (drop at w) = omega arith in rw r (run_all (drop at w))
+
+module _ (ds : List ℕ) (i : ℕ) (h : i < length ds) where
+  pub digit_here : all_digits (drop i ds) ≡ true → (is_digit (get_or ds i 0) ≡ true) × (all_digits (drop (i + 1) ds) ≡ true)
+  unfolding all_digits
+  digit_here e = let p = (and-eq-true_iff (is_digit (get_or ds i 0)) (all_digits (drop (suc i) ds))).0 (rw (drop-cons ds i 0 h) at e) in (p.0, rw (add-one i) p.1)
+
+  pub digit_more : (n : ℕ) → decimal_from n (drop i ds) ≡ decimal_from (n * 10 + digit_value (get_or ds i 0)) (drop (i + 1) ds)
+  unfolding decimal_from
+  digit_more n = rw (drop-cons ds i 0 h, add-one i)
+
+pub none_more : (n : ℕ) (ds : List ℕ) (i : ℕ) → length ds ≤ i → decimal_from n (drop i ds) ≡ n
+unfolding decimal_from
+none_more n ds i h = rw (drop_of_length-le ds h)
+
+-- ---- units: each by its rank in a table of them
+pub at_rank : (ts : List TimeUnit) → map unit_of ts ≡ units → {rank : ℕ} (d : TimeUnit) → rank < length units → unit_of (get_or ts rank d) ≡ unit_at rank
+at_rank ts e {rank} d h =
+    let n = sym (length-map ts unit_of) ∙ ap length e in
+    sym (get_or-map unit_of ts rank d (unit "" 0) (omega (arith, n))) ∙ ap (λ (us : List NamedUnit). get_or us rank (unit "" 0)) e
 
 -- none of these units has more milliseconds
 most : List NamedUnit → ℕ
@@ -52,9 +84,15 @@ of_most (u ∷ us) (suc i) = omega (arith, of_most us i)
 abbrev pub part_most : ℕ
 part_most = 10 ^ 9 * 604_800_000
 
-pub amount_small : (rank : ℕ) {n ms : ℕ} → n < 10 ^ 9 → ms ≡ (unit_at rank).milliseconds → n * ms ≤ part_most
+pub amount_small : {n ms : ℕ} → n < 10 ^ 9 → ms ≤ 604_800_000 → n * ms ≤ part_most
+amount_small h l = mul-le-mul (le_of_lt h) l
+
+rank_small : (rank : ℕ) → (unit_at rank).milliseconds ≤ 604_800_000
 unfolding most
-amount_small rank {ms = ms} h e = let l : ms ≤ 604_800_000 = omega (arith, of_most units rank) in mul-le-mul (le_of_lt h) l
+rank_small rank = omega (arith, of_most units rank)
+
+pub entry_small : (ts : List TimeUnit) → map unit_of ts ≡ units → {rank : ℕ} (d : TimeUnit) → rank < length units → (get_or ts rank d).milliseconds ≤ 604_800_000
+entry_small ts e {rank} d h = omega (arith, ap (λ (u : NamedUnit). u.milliseconds) (at_rank ts e d h), rank_small rank)
 
 -- ---- a part
 module _ (u : NamedUnit) (w : List ℕ) (at : ℕ) where
@@ -115,7 +153,7 @@ part_small rank w at q =
     let i = part_is (unit_at rank) w at q in
     let d = digits_end w at in
     let l = ((and-eq-true_iff (ltb at d) (leb d (at + 9))).0 ((and-eq-true_iff (ltb at d && leb d (at + 9)) _).0 i.0).0).1 in
-    omega (arith, amount_small rank (decimal_small w at refl (leb-true d (at + 9) l)) refl)
+    omega (arith, amount_small (decimal_small w at refl (leb-true d (at + 9) l)) (rank_small rank))
 
 -- ---- the parts, unit by unit
 plus_plus : (n m : ℕ) (r : Option ℕ) → plus n (plus m r) ≡ plus (n + m) r

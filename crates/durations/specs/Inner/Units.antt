@@ -7,6 +7,10 @@ use Rattle.durations.specs.declared.unit.TimeUnit.{TimeUnit}
 abbrev pub unit_at : ℕ → NamedUnit
 unit_at rank = get_or units rank (unit "" 0)
 
+-- the unit that the program's form is one of
+abbrev pub unit_of : TimeUnit → NamedUnit
+unit_of t = record { name = t.name.now; milliseconds = t.milliseconds }
+
 -- the unit's name and its milliseconds
 pub record IsUnit (u : NamedUnit) (t : TimeUnit) : Type 0 where
   pub name : t.name.now ≡ u.name

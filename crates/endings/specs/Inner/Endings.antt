@@ -1,5 +1,5 @@
 -- What follows an expression that was read, by the token at the position where it ends. Assumes nothing.
-use Rattle.std.specs.Prelude.{ℕ, ◌+◌, ◌-◌, ◌<◌, ◌≤◌, List, length, Option, Some, None, Result, Ok, Err}
+use Rattle.std.specs.Prelude.{ℕ, List, Option, Some, None, Result, Ok, Err, IfOk}
 use Rattle.classes.specs.Class.{close_bracket}
 use Rattle.refusals.specs.declared.Refusal.{Refusal}
 use Rattle.refusals.specs.Refusals.{refusal}
@@ -7,13 +7,9 @@ use Rattle.refusals.specs.declared.Cause.TheVariants.{BracketExpected, EmptyList
 use Rattle.tokens.specs.Token.{place_of, token_at}
 use Rattle.tokens.specs.Inner.Bounds.{next_of_class}
 use Rattle.rules.specs.Rule.{Join}
-use Rattle.grammar.specs.Inner.Starts.{left}
+use Rattle.signs.specs.Inner.Expected.{expected_by}
 use Rattle.nodes.specs.declared.Nodes.{Nodes}
-use Rattle.nodes.specs.Inner.Parses.{joined, without_root}
-
--- it lies later in the text, and fewer tokens are left
-abbrev pub Ahead : List ℕ → ℕ → ℕ → Type 0
-Ahead s at y = (at < y) × (y ≤ length s) × (left s y < left s at)
+use Rattle.nodes.specs.Inner.Parses.{JoinRoom, joined, without_root}
 
 -- the nodes of a chain's left side: the chain continues them where its sign follows
 abbrev pub continued : {N : ℕ} → Option ℕ → ℕ → Nodes N → Nodes N
@@ -22,8 +18,7 @@ continued None kind b = b
 
 -- the end of a group, by what follows a closing bracket; where there is none, another token is at p
 abbrev pub closed_by : Option ℕ → ℕ → Result ℕ Refusal
-closed_by (Some next) p = Ok next
-closed_by None p = Err (refusal BracketExpected p)
+closed_by next p = expected_by next BracketExpected p
 
 abbrev pub group_end : List ℕ → ℕ → Result ℕ Refusal
 group_end s at = closed_by (next_of_class close_bracket (token_at s at)) (place_of (token_at s at))
@@ -36,11 +31,9 @@ first_by None place next = Ok next
 abbrev pub first_argument : List ℕ → ℕ → ℕ → Result ℕ Refusal
 first_argument s place next = first_by (next_of_class close_bracket (token_at s next)) place next
 
--- room for a list's node, and for one for each byte after its last argument
-pub record ListRoom {N : ℕ} (s : List ℕ) (at first : ℕ) (b : Nodes N) : Type 0 where
-  pub some : first < b.n
-  pub roomy : b.n + (length s - at) ≤ N
-  pub few : N ≤ 2048
+-- room for a list's node where the list is closed
+abbrev pub ListRoom : {N : ℕ} → List ℕ → ℕ → ℕ → Nodes N → Type 0
+ListRoom s at first b = IfOk (group_end s at) (λ next. JoinRoom first b)
 
 -- the nodes at a list's end: its own is appended where it is closed
 abbrev pub list_nodes : {N : ℕ} → Option ℕ → Join → ℕ → Nodes N → Nodes N

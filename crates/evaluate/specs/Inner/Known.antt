@@ -3,11 +3,11 @@ use Rattle.std.specs.Prelude.{ℕ, ◌<◌, ◌≡◌, List, leb, get_or}
 use Rattle.rules.specs.Rule.{Leaf}
 use Rattle.image.specs.Decode.{leaf_meaning, cell_at}
 use Rattle.store_table.specs.Stores.{entries_in, all_names}
-use Rattle.evaluate.specs.Evict.{Env, env_of, leaf_says}
+use Rattle.evaluate.specs.Evict.{Env, leaf_says}
 
--- the environment that stores, an age and a list make
-abbrev pub env_in : List ℕ → ℕ → List ℕ → Env
-env_in stores age list = env_of (entries_in stores) age (all_names (entries_in list))
+-- the environment that a list, an age and a count of readable stores make
+abbrev pub env_in : List ℕ → ℕ → ℕ → Env
+env_in list age ready = record { age = age; ready = ready; names = all_names (entries_in list) }
 
 -- of an image of n nodes, each leaf among the first i says evict in an environment exactly where its number is at least `least`
 abbrev pub SaidTo : List ℕ → ℕ → List ℕ → ℕ → Env → ℕ → Type 0

@@ -5,13 +5,12 @@ use mathlib.Core.List.{List}
 use Prim.Native.Nat.{ℕ, zero, suc, ◌+◌, ◌-◌, ◌*◌, ◌≤◌, ◌<◌}
 use native.Mathlib.Omega.{arith}
 use lib.ListN.{length}
-use Rattle.refusals.specs.declared.Refusal.{Refusal}
 use Rattle.refusals.specs.Refusals.{refusal}
 use Rattle.refusals.specs.declared.Cause.TheVariants.{BracketExpected}
 use Rattle.tokens.specs.declared.Token.{Token}
 use Rattle.tokens.specs.Token.{tokens_from}
 use Rattle.rules.specs.Rule.{Join, all, any, Rule, node, Rules, nil, more}
-use Rattle.grammar.specs.Grammar.{rest, missing, after, first_place, PrimaryStart, a_leaf, a_group, a_list, refused, primary_start, ParseResult, got, bad, onto, on_rest, close_after, by_start, or_in, or_more, and_in, and_more, primary_in, list_more}
+use Rattle.grammar.specs.Grammar.{rest, after, first_place, PrimaryStart, a_leaf, a_group, a_list, refused, primary_start, ParseResult, got, bad, onto, on_rest, close_after, by_start, or_in, or_more, and_in, and_more, primary_in, list_more}
 use Rattle.classes.specs.Class.{close_bracket, comma, ampersand, bar}
 use Rattle.grammar.specs.Reading.{ended, parse_of}
 use Rattle.grammar.specs.Inner.Rules.{start_rest, left_of, or_of, and_of, primary_of, or_rest, and_rest, list_rest}
@@ -27,9 +26,6 @@ begun_fewer s ts (a_group vs) b e = rest_fewer vs b.fewer e
 begun_fewer s ts (a_list j p vs) b e = rest_fewer vs b.0.fewer e
 begun_fewer s ts (refused f) b e = let z : ◌≡◌ {A = ℕ} 0 1 = cc in absurd (omega arith)
 
-made_fewer : (s : List ℕ) (ts : List Token) (g : ParseResult) {r : Rule} {us : List Token} → Holds (MadeRule s ts) g → g ≡ got r us → length us < length ts
-made_fewer s ts g m e = let n = rw e at m in n.taken.fewer
-
 pub made_left : (s : List ℕ) (ts : List Token) (g : ParseResult) → Holds (MadeRule s ts) g → left_of g ≤ length ts - 1
 made_left s ts (got r us) m = omega (arith, m.taken.fewer)
 made_left s ts (bad f) m = omega arith
@@ -41,15 +37,6 @@ onto_left j l (bad f) = refl
 module _ (s : List ℕ) where
   pub head_fewer : (d : ℕ) (ts : List Token) {us : List Token} → start_rest (primary_start s d ts) ≡ rest us → length us < length ts
   head_fewer d ts e = begun_fewer s ts (primary_start s d ts) (head_begun s d ts) e
-
-  pub or_fewer : (f d : ℕ) (ts : List Token) {r : Rule} {us : List Token} → or_in f s d ts ≡ got r us → length us < length ts
-  or_fewer f d ts e = made_fewer s ts (or_in f s d ts) (or_made s f d ts) e
-
-  pub and_fewer : (f d : ℕ) (ts : List Token) {r : Rule} {us : List Token} → and_in f s d ts ≡ got r us → length us < length ts
-  and_fewer f d ts e = made_fewer s ts (and_in f s d ts) (and_made s f d ts) e
-
-  pub primary_fewer : (f d : ℕ) (ts : List Token) {r : Rule} {us : List Token} → primary_in f s d ts ≡ got r us → length us < length ts
-  primary_fewer f d ts e = made_fewer s ts (primary_in f s d ts) (primary_made s f d ts) e
 
   -- a chain's operand leaves at most these, and so does what follows it
   turn_left : (k : ℕ) (j : Join) (operand : List Token → ParseResult) (again : ParseResult → ParseResult) → Sign k →
@@ -201,24 +188,14 @@ module _ (s : List ℕ) (d : ℕ) where
       then_same s ts (and_in f s d ts) (and_of s d ts) (or_more f s d) (or_rest s d) (and_made s f d ts)
       (and_fuel s f d ts (omega arith)) (λ g l. or_more_fuel s f d g (omega arith))
 
-  pub or_bad : (r : Refusal) → or_rest s d (bad r) ≡ bad r
-  unfolding or_rest or_in
-  or_bad r = refl
-
   module _ (l : Rule) (us : List Token) where
-    or_step : or_rest s d (got l us) ≡ on_rest (after bar us) (λ vs. or_rest s d (onto any l (and_of s d vs))) (got l us)
+    pub or_step : or_rest s d (got l us) ≡ on_rest (after bar us) (λ vs. or_rest s d (onto any l (and_of s d vs))) (got l us)
     unfolding or_in
     or_step =
         let f = 3 * length us in
         sym (or_more_fuel s (suc f) d (got l us) (omega arith)) ∙
         turn_same s bar any (and_in f s d) (and_of s d) (or_more f s d) (or_rest s d) (omega arith) (and_made s f d) l us
         (λ vs t. and_fuel s f d vs (omega arith)) (λ g t. or_more_fuel s f d g (omega arith))
-
-    pub or_end : after bar us ≡ missing → or_rest s d (got l us) ≡ got l us
-    or_end e = or_step ∙ rw e
-
-    pub or_on : {vs : List Token} → after bar us ≡ rest vs → or_rest s d (got l us) ≡ or_rest s d (onto any l (and_of s d vs))
-    or_on e = or_step ∙ rw e
 
   -- and
   pub and_of_lem : (ts : List Token) → and_of s d ts ≡ and_rest s d (primary_of s d ts)
@@ -229,24 +206,14 @@ module _ (s : List ℕ) (d : ℕ) where
       then_same s ts (primary_in f s d ts) (primary_of s d ts) (and_more f s d) (and_rest s d) (primary_made s f d ts)
       (primary_fuel s f d ts (omega arith)) (λ g l. and_more_fuel s f d g (omega arith))
 
-  pub and_bad : (r : Refusal) → and_rest s d (bad r) ≡ bad r
-  unfolding and_rest or_in
-  and_bad r = refl
-
   module _ (l : Rule) (us : List Token) where
-    and_step : and_rest s d (got l us) ≡ on_rest (after ampersand us) (λ vs. and_rest s d (onto all l (primary_of s d vs))) (got l us)
+    pub and_step : and_rest s d (got l us) ≡ on_rest (after ampersand us) (λ vs. and_rest s d (onto all l (primary_of s d vs))) (got l us)
     unfolding or_in
     and_step =
         let f = 3 * length us in
         sym (and_more_fuel s (suc f) d (got l us) (omega arith)) ∙
         turn_same s ampersand all (primary_in f s d) (primary_of s d) (and_more f s d) (and_rest s d) (omega arith) (primary_made s f d) l us
         (λ vs t. primary_fuel s f d vs (omega arith)) (λ g t. and_more_fuel s f d g (omega arith))
-
-    pub and_end : after ampersand us ≡ missing → and_rest s d (got l us) ≡ got l us
-    and_end e = and_step ∙ rw e
-
-    pub and_on : {vs : List Token} → after ampersand us ≡ rest vs → and_rest s d (got l us) ≡ and_rest s d (onto all l (primary_of s d vs))
-    and_on e = and_step ∙ rw e
 
   -- an argument of a list, and what follows it
   args_same : (f : ℕ) (j : Join) (rs : Rules) (us : List Token) → 3 * length us + 3 ≤ f →
@@ -268,12 +235,8 @@ module _ (s : List ℕ) (d : ℕ) where
 
   -- the arguments of a list
   module _ (j : Join) (rs : Rules) where
-    pub list_bad : (r : Refusal) → list_rest s d j rs (bad r) ≡ bad r
-    unfolding list_rest or_in
-    list_bad r = refl
-
     module _ (r : Rule) (us : List Token) where
-      list_step : list_rest s d j rs (got r us)
+      pub list_step : list_rest s d j rs (got r us)
           ≡ on_rest (after comma us) (λ vs. list_rest s d j (more rs r) (or_of s (d + 1) vs))
           (on_rest (after close_bracket us) (λ vs. got (node j rs r) vs) (bad (refusal BracketExpected (first_place us))))
       unfolding or_in
@@ -281,15 +244,6 @@ module _ (s : List ℕ) (d : ℕ) where
           let f = 3 * length us in
           sym (list_more_fuel s (suc f) d (got r us) (omega arith) j rs) ∙
           rest_same comma us _ _ _ (omega arith) (λ vs t. args_same f j (more rs r) vs (omega arith))
-
-      pub list_on : {vs : List Token} → after comma us ≡ rest vs → list_rest s d j rs (got r us) ≡ list_rest s d j (more rs r) (or_of s (d + 1) vs)
-      list_on e = list_step ∙ rw e
-
-      pub list_end : {vs : List Token} → after comma us ≡ missing → after close_bracket us ≡ rest vs → list_rest s d j rs (got r us) ≡ got (node j rs r) vs
-      list_end e q = list_step ∙ rw (e, q)
-
-      pub list_open : after comma us ≡ missing → after close_bracket us ≡ missing → list_rest s d j rs (got r us) ≡ bad (refusal BracketExpected (first_place us))
-      list_open e q = list_step ∙ rw (e, q)
 
 -- ---- a text's expression
 pub parse_of_lem : (s : List ℕ) → parse_of s ≡ ended (or_of s 0 (tokens_from s 0))

@@ -7,7 +7,7 @@ use native.Mathlib.Omega.{arith}
 use borrow.Author.Tests.{eqb-true}
 use lib.Dec.{eqb}
 use lib.ListN.{length}
-use Rattle.std.specs.Prelude.{Option, None, Some}
+use Rattle.std.specs.Prelude.{Option, None, Some, IfSome}
 use Rattle.classes.specs.Class.{open_bracket, close_bracket, comma, ampersand, bar}
 use Rattle.tokens.specs.declared.Token.{Token}
 use Rattle.tokens.specs.declared.Token.TheVariants.{End, Open, Close, Comma, And, Or, Word, Fault}
@@ -15,6 +15,7 @@ use Rattle.tokens.specs.Token.{place_of, next_of, token_at, tokens_from}
 use Rattle.tokens.specs.Inner.Bounds.{next_of_class, Lexed}
 use Rattle.tokens.proofs.Laws.TokenLaws.{lexed}
 use Rattle.grammar.specs.Grammar.{token_kind, missing, after, first_place}
+use Rattle.grammar.specs.Inner.Starts.{Ahead}
 use Rattle.grammar.proofs.Laws.TokenListLaws.{Signed, signed, first_place_lem, after_off}
 
 -- the test for a class that says yes
@@ -67,3 +68,11 @@ module _ (s : List ℕ) (at k : ℕ) {r : Option ℕ} (e : r ≡ next_of_class k
     -- the place of a bracket or a comma
     pub test_place : k ≤ comma → first_place (tokens_from s at) ≡ n - 1
     test_place few = first_place_lem s at refl ∙ omega (arith, is_found.2 few)
+
+  -- where it said yes, the text continues later
+  pub test_ahead : IfSome r (Ahead s at)
+  test_ahead = go r refl
+    where
+      go : (v : Option ℕ) → r ≡ v → IfSome v (Ahead s at)
+      go (Some n) h = (test_on h).bounds
+      go None h = tt

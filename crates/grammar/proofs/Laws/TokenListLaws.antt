@@ -13,7 +13,6 @@ use Rattle.tokens.specs.Token.{place_of, next_of, token_at, onward, tokens_from}
 use Rattle.tokens.specs.Inner.Bounds.{Lexed}
 use Rattle.tokens.proofs.Laws.TokenLaws.{tokens_are, goes_on, left_on, lexed}
 use Rattle.grammar.specs.Grammar.{token_kind, rest, missing, after, first_place, expected, other_token, expected_by, expected_word}
-use Rattle.classes.specs.Class.{comma, close_bracket}
 use Rattle.grammar.specs.Inner.Starts.{left}
 
 -- the rest of the tokens, where the text continues after the first
@@ -83,11 +82,3 @@ pub record Signed (s : List ℕ) (at k n : ℕ) : Type 0 where
 module _ (s : List ℕ) (at : ℕ) where
   pub signed : {t : Token} {n : ℕ} → token_at s at ≡ t → next_of t ≡ Some n → Signed s at (token_kind t) n
   signed {t} e h = record { sign = after_on s at e h (token_kind t) refl; bounds = steps s at e h }
-
-  pub comma_signed : {p n : ℕ} → token_at s at ≡ Comma p n → Signed s at comma n
-  unfolding next_of
-  comma_signed e = signed e refl
-
-  pub close_signed : {p n : ℕ} → token_at s at ≡ Close p n → Signed s at close_bracket n
-  unfolding next_of
-  close_signed e = signed e refl

@@ -1,5 +1,5 @@
 -- How the program's answer to how a primary begins is read, and the bounds of its numbers. Assumes nothing.
-use Rattle.std.specs.Prelude.{ℕ, ◌≤◌, ◌≡◌, List, length, Option, None, Some, Result, Ok, Err}
+use Rattle.std.specs.Prelude.{ℕ, ◌≤◌, ◌<◌, ◌≡◌, List, length, Option, None, Some, Result, Ok, Err}
 use Rattle.slices.specs.Text.{part}
 use Rattle.refusals.specs.declared.Refusal.{Refusal}
 use Rattle.tokens.specs.declared.Token.{Token}
@@ -41,6 +41,10 @@ start_next (Err f) = None
 -- how many tokens are left from a position on
 abbrev pub left : List ℕ → ℕ → ℕ
 left s at = length (tokens_from s at)
+
+-- the text continues at n, which is later, with fewer tokens left
+abbrev pub Ahead : List ℕ → ℕ → ℕ → Type 0
+Ahead s at n = (at < n) × (n ≤ length s) × (left s n < left s at)
 
 -- The answer says what the grammar has. The text continues at `lo` or later, with at most `most` tokens left; a name begins
 -- at `low` or later.

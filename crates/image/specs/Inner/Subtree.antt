@@ -1,16 +1,26 @@
 -- A rule in a row of nodes: what a function that walks a part of an image asks. Assumes nothing.
 use Rattle.std.specs.Prelude.{ℕ, ◌+◌, ◌≤◌, ◌<◌, ◌≡◌, List, length}
-use Rattle.rules.specs.Rule.{Rule, size}
+use Rattle.rules.specs.Rule.{Rule, Rules, size, sizes}
 use Rattle.image.specs.Kinds.{named_kind}
 use Rattle.image.specs.Layout.{names_start, name_start, name_length}
 use Rattle.image.specs.Decode.{Cell, cell_at, node_at}
-use Rattle.image.specs.Inner.EncodedAt.{EncodedAt}
+use Rattle.image.specs.Inner.EncodedAt.{EncodedAt, EncodedAllAt}
 
 -- the k cells from `from` on are a rule's
 pub record Subtree (f : ℕ → Cell) (from k : ℕ) : Type 0 where
   pub rule : Rule
   pub sized : size rule ≡ k
   pub stands : EncodedAt rule f from
+
+-- the cells from `from` up to `end` are those of rules, one after another
+pub record Siblings (f : ℕ → Cell) (from end : ℕ) : Type 0 where
+  pub rules : Rules
+  pub stand : EncodedAllAt rules f from
+  pub ends : from + sizes rules ≡ end
+
+-- this holds of whatever rule has the k nodes from `from` on, among n nodes
+abbrev pub OfRule : List ℕ → ℕ → ℕ → ℕ → (Rule → Type 0) → Type 0
+OfRule s n from k P = (r : Rule) → size r ≡ k → EncodedAt r (cell_at s n) from → P r
 
 -- the name that an argument gives lies inside an image of n nodes
 abbrev pub NameInside : List ℕ → ℕ → ℕ → Type 0

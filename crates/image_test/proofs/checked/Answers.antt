@@ -7,6 +7,7 @@ use Rattle.slices.specs.Text.{all_ascii}
 use Rattle.image.specs.Layout.{names_start}
 use Rattle.image.specs.Decode.{decode}
 use Rattle.image.specs.Inner.Valid.{is_some}
+use Rattle.image.proofs.Laws.InsideLaws.{image_inside}
 use Rattle.image.proofs.Laws.TestLaws.{true_sized, not_sized, Headed, not_ascii, not_named, all_tests}
 use Rattle.image_test.proofs.checked.Goals as goal
 use Rattle.image_test.proofs.checked.Goals.{After-ascii_from, Else-bytes-start, After-nodes_fit}
@@ -61,7 +62,14 @@ returns-then-not-nodes_fit c =
     let at = goal.at.returns-then-not-nodes_fit c in
     sym (the_nodes at.After-nodes_fit (the_head at.Else-bytes-start) (the_ascii at.After-ascii_from ∙ c.if-not-ascii_from.false)) ∙ c.if-not-nodes_fit.true
 
-pub invariant_of-result-clause-rule : goal.invariant_of-result-clause-rule
-invariant_of-result-clause-rule c =
-    let at = goal.at.invariant_of-result-clause-rule c in
-    sym (the_nodes at.After-nodes_fit (the_head at.Else-bytes-start) (the_ascii at.After-ascii_from ∙ c.if-not-ascii_from.false)) ∙ c.if-not-nodes_fit.false
+pub invariant_of-result : goal.invariant_of-result
+invariant_of-result c =
+    let at = goal.at.invariant_of-result c in
+    let image = sym (the_nodes at.After-nodes_fit (the_head at.Else-bytes-start) (the_ascii at.After-ascii_from ∙ c.if-not-ascii_from.false)) ∙ c.if-not-nodes_fit.false in
+    record { valid = ∣ image_inside _ image c.node_count-n.ensures.0 ∣₁ }
+
+pub returns : goal.returns
+returns c =
+    let at = goal.at.returns c in
+    let image = sym (the_nodes at.After-nodes_fit (the_head at.Else-bytes-start) (the_ascii at.After-ascii_from ∙ c.if-not-ascii_from.false)) ∙ c.if-not-nodes_fit.false in
+    (image, (refl, c.node_count-n.ensures.0))

@@ -6,6 +6,7 @@ use lib.ListN.{length, take}
 use lib.Seq.{length-take-le}
 use Rattle.image.specs.Decode.{decode}
 use Rattle.image.specs.Inner.Valid.{is_some}
+use Rattle.image.proofs.Laws.InsideLaws.{image_few}
 use Rattle.verdict.proofs.Laws.GuaranteeLaws.{judges}
 use Rattle.verdict.proofs.Laws.CheckLaws.{written_image, checks_image}
 use borrow.Author.Rules.{rules}
@@ -30,10 +31,13 @@ slice_bounds-of-end-2 c = sym (length-take-le _ _ (the_image (goal.at.slice_boun
 pub of-written-requires : goal.of-written-requires
 of-written-requires c = (the_image (goal.at.of-written-requires c).In_ok-size).1
 
+pub check_rule-requires : goal.check_rule-requires
+check_rule-requires c = image_few _ (the_image (goal.at.check_rule-requires c).In_ok-size).1 c.of-written.ensures.1
+
 pub returns : goal.returns
 returns c =
-    let image = c.of-written.result in
-    rw c.of-written.ensures at (checks_image _ image.rule image.counted _ c.check_rule.ensures)
+    let image = c.of-written.ensures in
+    checks_image _ (the_image (goal.at.returns c).In_ok-size).1 image.1 _ (rw image.0 at c.check_rule.ensures)
     ∙ judges _ _ _ c.read_fitting.ensures c.in_ok-size.was
 
 pub returns-in_err-size : goal.returns-in_err-size

@@ -11,8 +11,7 @@ use Rattle.ascii.specs.Letters.{within}
 use Rattle.slices.specs.Text.{part, other, written, WrittenAt}
 use Rattle.slices.proofs.Laws.TextLaws.{end_within, part_length}
 use Rattle.slices.proofs.Laws.SearchLaws.{last_le}
-use Rattle.slices.proofs.Laws.WrittenLaws.{written_sets, written_at_length, written_at_after}
-use Rattle.lines.specs.Lines.{text_end, shown, shown_all, line_start, line_stop}
+use Rattle.lines.specs.Lines.{shown, shown_all, line_start, line_stop}
 
 -- what is written over a part of a slice
 pub written_over : (s ys : List ℕ) (at end : ℕ) → at + length ys ≡ end → end ≤ length s → WrittenAt s (put_mid at (end - at) s ys) at end ys

@@ -4,7 +4,7 @@ use Rattle.std.specs.Prelude.{ℕ, ◌+◌, ◌-◌, ◌*◌, ◌≤◌, ◌<◌
 use Rattle.refusals.specs.declared.Refusal.{Refusal}
 use Rattle.tokens.specs.declared.Token.{Token}
 use Rattle.tokens.specs.Token.{tokens_from}
-use Rattle.rules.specs.Rule.{Join, Rule}
+use Rattle.rules.specs.Rule.{Leaf, Join, Rule, leaf}
 use Rattle.image.specs.Layout.{tag_kind}
 use Rattle.image.specs.Encode as image
 use Rattle.grammar.specs.Grammar.{ParseResult, got, bad}
@@ -67,6 +67,11 @@ pub record NameRoom {N : ℕ} (s : List ℕ) (start end : ℕ) (b : Nodes N) : T
   pub room : b.n < N
   pub width : b.m + (end - start) ≤ N
   pub few : N ≤ 2048
+
+-- a leaf's node was appended, and its name where it has one
+pub record Written {N : ℕ} (l : Leaf) (b a : Nodes N) : Type 0 where
+  pub reached : (a.n ≡ b.n + 1) × (a.m ≡ b.m + length (image.leaf_name l))
+  pub holds : Appended (leaf l) b a
 
 -- room for a combinator's node, over those from `first` on
 pub record JoinRoom {N : ℕ} (first : ℕ) (b : Nodes N) : Type 0 where

@@ -18,10 +18,10 @@ use Rattle.page_text.specs.Report.{verdict_text}
 use Rattle.store_args.specs.declared.Fault.{Fault}
 use Rattle.store_args.specs.declared.Fault.TheVariants.{NoColon, NoMode, LongName, ForeignName}
 use Rattle.store_args.specs.declared.WrongArgument.{WrongArgument}
-use Rattle.store_args.specs.Arguments.{arguments_in, stores_in}
+use Rattle.store_args.specs.Arguments.{fault_text, arguments_in, stores_in}
 use Rattle.store_args.proofs.Laws.ArgumentsLaws.{stores_fit, stores_many}
 use Rattle.store_args.specs.Inner.Filling.{TableAt}
-use Rattle.page_text.specs.Page.{fault_text, argument_line, judged_text, report_of, page_of}
+use Rattle.page_text.specs.Page.{argument_line, judged_text, report_of, page_of}
 
 pub fault_short : (f : Fault) → length (fault_text f) ≤ 64
 fault_short NoColon = omega arith

@@ -1,17 +1,12 @@
 -- Laws of the lines that name the write-only stores. Assumes nothing.
 use mathlib.Core.Path.{◌≡◌, refl, ap}
 use mathlib.Core.List.{List, [], ◌++◌, append-nil, append_assoc}
-use mathlib.Core.Bool.{false}
-use Prim.Native.Nat.{ℕ, ◌+◌, ◌≤◌, ◌<◌}
-use native.Mathlib.Decide.{dec_lt}
+use Prim.Native.Nat.{ℕ, ◌+◌, ◌≤◌}
 use native.Mathlib.Omega.{arith}
 use borrow.Author.Tests.{ne_eqb}
 use lib.ListN.{length, drop, length-append, drop_of_length-le}
-use Rattle.ascii.specs.Letters.{within}
 use Rattle.slices.specs.Text.{WrittenAt}
 use Rattle.slices.proofs.Laws.WrittenLaws.{written_at_none, written_at_after, written_at_length}
-use Rattle.slices.proofs.Laws.SearchLaws.{is_below, is_above}
-use Rattle.refusals.specs.declared.Refusal.{Refusal}
 use Rattle.lines.proofs.Laws.LinesLaws.{shown_length}
 use Rattle.store_table.specs.Stores.{Entry, write_only, count_in, entries_in, write_only_names}
 use Rattle.store_table.specs.Inner.Bounds.{TableInBounds}

@@ -25,7 +25,7 @@ use Rattle.grammar.proofs.Laws.TokenListLaws.{first_place_lem}
 use Rattle.grammar.proofs.Laws.CleanLaws.{read_clean}
 use Rattle.nodes.specs.Inner.Parses.{ParsedRule}
 use Rattle.nodes.specs.declared.Nodes.{Nodes}
-use Rattle.parse_text.specs.Inner.Parsing.{ReadRoom, Whole, Ended, Finished}
+use Rattle.parse_text.specs.Inner.Parsing.{Whole, Ended, Finished}
 
 -- a refusal that was passed on
 pub refused_on : (s : List ℕ) {N : ℕ} (a : Nodes N) (r : Result (Unit {0}) Refusal) {f : Refusal} → IsErrAnd r (λ (y : Refusal). y ≡ f) → parse_of s ≡ refused f →
@@ -88,7 +88,7 @@ module _ (s : List ℕ) where
   end_onward t None more = refl
   end_onward t (Some n) more = refl
 
-  module _ {N : ℕ} {b a : Nodes N} {e : ℕ} (p : ReadRoom s b)
+  module _ {N : ℕ} {b a : Nodes N} {e : ℕ}
       (r : ParsedRule (λ (f : ℕ). or_in f s 0 (tokens_from s 0)) (3 * left s 0 + 3) s 0 b a e) where
     ended_at : {t : Token} → token_at s e ≡ t → parse_of s ≡ cond (eqb (token_kind t) 0) (rule r.tree) (refused (refusal TrailingToken (place_of t)))
     ended_at {t} h =
@@ -98,17 +98,17 @@ module _ (s : List ℕ) where
     pub parse_trailing : {t : Token} {p : ℕ} → token_at s e ≡ t → (token_kind t ≡ 0 → ⊥) → p ≡ place_of t → parse_of s ≡ refused (refusal TrailingToken p)
     parse_trailing h k q = ended_at h ∙ rw (ne_eqb _ _ k, q)
 
-    pub parse_whole : {p : ℕ} → token_at s e ≡ End p → (scan_of (tokens_from s 0) ≡ Ok tt) × Whole (parse_of s) s a
-    parse_whole h =
+    pub parse_whole : {p : ℕ} → (b.n ≡ 0) × (b.m ≡ 0) → token_at s e ≡ End p → (scan_of (tokens_from s 0) ≡ Ok tt) × Whole (parse_of s) s a
+    parse_whole none h =
         let f = 3 * left s 0 + 3 in
         let o = r.holds in (
           read_clean s f e (r.says f (omega arith)) h,
           record {
             tree = r.tree;
             says = ended_at h;
-            tags = rw p.no_nodes at o.tags;
-            args = rw (p.no_nodes, p.no_bytes) at o.args;
-            names = rw p.no_bytes at o.names;
+            tags = rw none.0 at o.tags;
+            args = rw (none.0, none.1) at o.args;
+            names = rw none.1 at o.names;
             nodes = omega (arith, o.more_tags, length_tags r.tree);
             bytes = omega (arith, o.more_names);
             few = omega (arith, r.room, r.within);

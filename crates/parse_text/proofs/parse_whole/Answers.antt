@@ -11,8 +11,8 @@ returns-in_err-end g c =
 pub returns-in_default : goal.returns-in_default
 returns-in_default g c =
     let t = c.token_from-rest in
-    parse_trailing _ c.requires c.in_ok-end.ensures (sym t.ensures) (not_end t.result c.in_default.not-End) c.place_of.ensures
+    parse_trailing _ c.in_ok-end.ensures (sym t.ensures) (not_end t.result c.in_default.not-End) c.place_of.ensures
     ∙ ap refused (sym c.at.ensures)
 
 pub returns : goal.returns
-returns g c = parse_whole _ c.requires c.in_ok-end.ensures (sym c.token_from-rest.ensures ∙ c.in-End.is)
+returns g c = parse_whole _ c.in_ok-end.ensures c.clear.ensures (sym c.token_from-rest.ensures ∙ c.in-End.is)

@@ -8,10 +8,8 @@ use Rattle.image.specs.Encode as image
 use Rattle.grammar.specs.Reading.{Read, rule, refused as unread, parse_of, read_of}
 use Rattle.nodes.specs.declared.Nodes.{Nodes}
 
--- there are no nodes yet, with room for a node and for a name byte for each byte of the text
+-- there is room for a node and for a name byte for each byte of the text
 pub record ReadRoom {N : ℕ} (s : List ℕ) (b : Nodes N) : Type 0 where
-  pub no_nodes : b.n ≡ 0
-  pub no_bytes : b.m ≡ 0
   pub room : length s ≤ N
   pub few : N ≤ 2048
 

@@ -8,7 +8,7 @@ use Rattle.grammar.proofs.Laws.StartLaws.{head_is, head_ahead}
 use Rattle.nodes.proofs.Laws.ParseLaws.{passed_on, and_level, or_level, first_refused, begin, stop, right_refused, turn, item_refused, item_read, list_turn}
 use Rattle.parser.proofs.Laws.OperandLaws.{found, not_found, root_dropped, root_stays}
 use Rattle.parser.proofs.Laws.PrimaryLaws.{primary_refused, name_read, test_read, group_refused, group_read}
-use Rattle.parser.proofs.Laws.ArgumentLaws.{first_missing, first_listing, list_end}
+use Rattle.parser.proofs.Laws.ArgumentLaws.{first_missing, first_listing, list_room, list_end}
 use Rattle.parser.proofs.+expression.Goals as goal
 
 -- ---- parse_and
@@ -69,10 +69,10 @@ parse_primary-returns-in_err-start g t c =
     passed_on _ _ _ _ c.from_residual.result c.from_residual.ensures.1 (primary_refused _ _ _ c.start_at.ensures.begins c.in_err-start.was)
 
 pub parse_primary-returns-in-Name : goal.parse_primary-returns-in-Name
-parse_primary-returns-in-Name g t c = name_read _ _ _ c.start_at.ensures.begins (c.in_ok-start.was ∙ ap Ok c.in-Name.is) c.push_name.ensures
+parse_primary-returns-in-Name g t c = name_read _ _ _ c.start_at.ensures.begins (c.in_ok-start.was ∙ ap Ok c.in-Name.is) c.push_name.ensures.holds
 
 pub parse_primary-returns-in-Leaf : goal.parse_primary-returns-in-Leaf
-parse_primary-returns-in-Leaf g t c = test_read _ _ _ c.start_at.ensures.begins (c.in_ok-start.was ∙ ap Ok c.in-Leaf.is) c.push_test.ensures
+parse_primary-returns-in-Leaf g t c = test_read _ _ _ c.start_at.ensures.begins (c.in_ok-start.was ∙ ap Ok c.in-Leaf.is) c.push_test.ensures.written.holds
 
 pub parse_primary-returns-in_err-inner-in-Group : goal.parse_primary-returns-in_err-inner-in-Group
 parse_primary-returns-in_err-inner-in-Group g t c =
@@ -114,7 +114,10 @@ parse_primary-loop-argument-preserved g t c =
     let i = found _ _ comma c.next_argument.ensures.next c.in-Some.is in
     item_read _ _ _ _ (list_turn _ _ _ _ c.loop-argument.invariant i.sign i.bounds) c.in_ok-end-in-List-2.ensures
 
+pub parse_primary-close_list-requires : goal.parse_primary-close_list-requires
+parse_primary-close_list-requires g t c = (omega arith, list_room _ _ _ _ c.loop-argument.invariant (omega arith))
+
 pub parse_primary-returns-in_default : goal.parse_primary-returns-in_default
 parse_primary-returns-in_default g t c =
-    list_end _ _ _ _ c.loop-argument.invariant record { some = omega arith; roomy = omega arith; few = omega arith } c.close_list.ensures.long
+    list_end _ _ _ _ c.loop-argument.invariant (omega arith) c.close_list.ensures.long
     (not_found _ _ comma c.next_argument.ensures.next (omega arith) c.in_default.is) c.close_list.ensures.next c.close_list.ensures.nodes

@@ -1,5 +1,5 @@
 -- Laws of a list: its first argument, the next one, its end. Assumes nothing.
-use Prim.Native.Nat.{ℕ, ◌+◌, ◌*◌, ◌≤◌, ◌<◌}
+use Prim.Native.Nat.{ℕ, ◌+◌, ◌-◌, ◌*◌, ◌≤◌, ◌<◌}
 use mathlib.Core.Path.{◌≡◌, refl, sym, ◌∙◌}
 use mathlib.Core.List.{List}
 use native.Mathlib.Omega.{arith}
@@ -15,7 +15,7 @@ use Rattle.grammar.specs.Inner.Starts.{left}
 use Rattle.grammar.proofs.Laws.TokenListLaws.{first_place_lem}
 use Rattle.grammar.proofs.Laws.SignTestLaws.{test_on, test_off}
 use Rattle.nodes.specs.declared.Nodes.{Nodes}
-use Rattle.nodes.specs.Inner.Parses.{Long, ParsedBy}
+use Rattle.nodes.specs.Inner.Parses.{Long, JoinRoom, ParsedBy}
 use Rattle.nodes.proofs.Laws.ParseLaws.{Listing, Listed, list_empty, list_begin, list_unclosed, list_stop}
 use Rattle.endings.specs.Inner.Endings.{closed_by, group_end, first_by, first_argument, list_nodes, ListRoom}
 
@@ -42,8 +42,18 @@ module _ (s : List ℕ) (d at : ℕ) (j : Join) where
             let same : e ≡ y = cc in
             rw (← same) (list_begin s d at j q h (test_off s e close_bracket p (omega arith) (omega arith) refl))
 
+  -- there is room for the list's node where the list is closed
+  pub list_room : {N : ℕ} {b a : Nodes N} {e : ℕ} → Listed s d at j b a e → (b.n + (length s - at) ≤ N) × (N ≤ 2048) → ListRoom s e b.n a
+  list_room {N} {b} {a} {e} l fits = go (next_of_class close_bracket (token_at s e)) refl
+    where
+      go : (v : Option ℕ) → v ≡ next_of_class close_bracket (token_at s e) → IfOk (closed_by v (place_of (token_at s e))) (λ (y : ℕ). JoinRoom b.n a)
+      go (Some y) p =
+          let i = test_on s e close_bracket p refl in
+          record { some = l.some; room = omega (arith, l.room, i.bounds); few = fits.1 }
+      go None p = tt
+
   -- the list's end
-  pub list_end : {N : ℕ} {b a c : Nodes N} {e : ℕ} {r : Result ℕ Refusal} → Listed s d at j b a e → ListRoom s e b.n a → IfOk r (λ (y : ℕ). Long c)
+  pub list_end : {N : ℕ} {b a c : Nodes N} {e : ℕ} {r : Result ℕ Refusal} → Listed s d at j b a e → b.n + (length s - at) ≤ N → IfOk r (λ (y : ℕ). Long c)
       → after comma (tokens_from s e) ≡ missing → r ≡ group_end s e
       → c ≡ list_nodes (next_of_class close_bracket (token_at s e)) j b.n a → ParsedBy primary_in 1 s d at b c r
   list_end {N} {b} {a} {c} {e} {r} l room long no_comma w nodes = rw w (go (next_of_class close_bracket (token_at s e)) refl (rw w at long) nodes)
@@ -52,6 +62,6 @@ module _ (s : List ℕ) (d at : ℕ) (j : Join) where
           → c ≡ list_nodes v j b.n a → ParsedBy primary_in 1 s d at b c (closed_by v (place_of (token_at s e)))
       go (Some y) p lc k =
           let i = test_on s e close_bracket p refl in
-          list_stop s d at j l no_comma i.sign i.bounds (omega (arith, room.roomy, i.bounds)) lc k
+          list_stop s d at j l no_comma i.sign i.bounds (omega (arith, room, l.room, i.bounds)) lc k
       go None p lc k =
           list_unclosed s d at j l no_comma (test_off s e close_bracket p (omega arith) (omega arith) refl) (first_place_lem s e refl)

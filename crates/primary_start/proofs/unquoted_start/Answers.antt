@@ -1,9 +1,11 @@
 -- `primary_start::unquoted_start` meets its contract: by whether a bracket follows the word. Assumes nothing.
 use Prim.Native.Nat.{ℕ}
-use mathlib.Core.Path.{refl, ap, ◌∙◌}
+use mathlib.Core.Path.{◌≡◌, ap, ◌∙◌}
 use mathlib.Core.Bool.{Bool}
 use mathlib.Core.List.{List}
 use native.Mathlib.Omega.{arith}
+use borrow.Author.Rules.{rules}
+use Rattle.std.specs.Prelude.{Err}
 use Rattle.slices.specs.Text.{bytes}
 use Rattle.ascii.specs.Letters.{equal_ignoring_case}
 use Rattle.grammar.specs.Grammar.{function_of, unquoted_leaf}
@@ -29,25 +31,28 @@ returns-then-eq_ignore_ascii_case c =
 pub returns-in_default : goal.returns-in_default
 unfolding unquoted_leaf
 returns-in_default c =
-    begins_name
+    rw c.name_of.ensures
+    (begins_name
     (rw (
       test_off _ _ open_bracket c.bracket_at.ensures (omega arith) (omega arith) c.in_default.is,
       told is_readable c.word_of-bytes.ensures c.eq_ignore_ascii_case.ensures c.if-eq_ignore_ascii_case.false,
     ))
     (omega arith)
-    (omega arith)
+    (omega arith))
 
 pub overflow_sub-inside : goal.overflow_sub-inside
 overflow_sub-inside c =
     let inside = (test_on _ _ open_bracket c.bracket_at.ensures c.in-Some.is).bounds in
     omega arith
 
-pub returns-then-deep : goal.returns-then-deep
-returns-then-deep c =
-    begins_refused refl c.at.ensures
+pub returns-in_err-allow_bracket : goal.returns-in_err-allow_bracket
+returns-in_err-allow_bracket c =
+    let deep = c.in_err-allow_bracket.ensures.deep in
+    let e : c.from_residual.result ≡ Err c.in_err-allow_bracket.field-0.0 = search rules in
+    begins_refused e deep.1
     (rw (
       (test_on _ _ open_bracket c.bracket_at.ensures c.in-Some.is).sign,
-      too_deep_lem c.if-deep.true (omega arith),
+      too_deep_lem deep.0 (omega arith),
       test_place _ _ open_bracket c.bracket_at.ensures c.in-Some.is (omega arith),
     ))
 
@@ -60,5 +65,5 @@ pub returns : goal.returns
 returns c =
     let opening = test_on _ _ open_bracket c.bracket_at.ensures c.in-Some.is in
     let inside = opening.bounds in
-    rw (opening.sign, not_deep c.if-deep.false (omega arith), ← c.function_of.ensures ∙ ap function_of c.word_of-bytes.ensures)
+    rw (opening.sign, not_deep c.in_ok-allow_bracket.ensures.room (omega arith), ← c.function_of.ensures ∙ ap function_of c.word_of-bytes.ensures)
     (begins_within c.call_start.ensures (omega arith) (omega arith) (omega arith))

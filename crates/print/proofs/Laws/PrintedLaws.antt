@@ -2,7 +2,9 @@
 use mathlib.Core.Path.{◌≡◌, ◌∙◌}
 use mathlib.Core.Bool.{true, false}
 use mathlib.Core.List.{List, ◌++◌}
-use Rattle.std.proofs.Common.{Ok, Err}
+use Rattle.std.specs.Prelude.{None, Option, Result, Ok, Err}
+use Rattle.std.specs.Option.{ok_or}
+use Rattle.refusals.specs.declared.Refusal.{Refusal}
 use Prim.Native.Nat.{ℕ, ◌≤◌, ◌<◌}
 use native.Mathlib.Omega.{arith}
 use borrow.Author.Tests.{lt-ltb, le-ltb}
@@ -20,6 +22,11 @@ use Rattle.image.specs.Inner.EncodedAt.{EncodedAt}
 use Rattle.image.proofs.Laws.InsideLaws.{decode_whole}
 use Rattle.print_text.specs.Print.{text_of}
 use Rattle.print.specs.Printed.{outcome, print_into}
+
+-- what `ok_or` refuses, where there is none, is the refusal that it is given
+pub refused_none : {A B : Type 0} {o : Option A} {e f g : Refusal} → ◌≡◌ {A = Result A Refusal} (Err e) (ok_or o f) → o ≡ None → f ≡ g →
+    ◌≡◌ {A = Result B Refusal} (Err e) (Err g)
+refused_none {e = e} {f = f} v none p = let q : e ≡ f = cc (rw none at v) in rw (q, p)
 
 -- of an image i and a buffer t
 module _ (i t : List ℕ) where

@@ -90,22 +90,6 @@ leaf_none nothing h = refl
 pub no_leaf_text : (s : List ℕ) (n k a : ℕ) → is_leaf k ≡ false → leaf_in s n k a ≡ []
 no_leaf_text s n k a h = leaf_none (meaning s n k a) (no_leaf s n k a h)
 
-pub no_opening : (k a : ℕ) → (k ≡ at_least_kind → ⊥) → opening_of k a ≡ []
-unfolding opening_of
-no_opening k a h = rw (ne_eqb k at_least_kind h)
-
-pub after_child_none : (k : ℕ) {last : Bool} → (k ≡ at_least_kind → ⊥) → (all_kind ≤ k → k ≤ any_kind → last ≡ true) → after_child_of k last ≡ []
-unfolding after_child_of after_child
-after_child_none k {last} g h = rw (ne_eqb k at_least_kind g) (by_all (eqb k all_kind) refl)
-  where
-    by_any : (b : Bool) → eqb k any_kind ≡ b → cond b (after_child any last) [] ≡ []
-    by_any true e = let p = eqb-true k any_kind e in rw (h (omega arith) (omega arith))
-    by_any false e = refl
-
-    by_all : (b : Bool) → eqb k all_kind ≡ b → cond b (after_child all last) (cond (eqb k any_kind) (after_child any last) []) ≡ []
-    by_all true e = let p = eqb-true k all_kind e in rw (h (omega arith) (omega arith))
-    by_all false e = by_any (eqb k any_kind) refl
-
 -- ---- how long they are at most: what comes after a child, what surrounds it, what comes before the children, and a leaf
 sign_short : (j : Join) (last : Bool) → length (after_child j last) ≤ 4
 unfolding after_child

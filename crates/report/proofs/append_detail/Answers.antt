@@ -33,7 +33,7 @@ pub append_place-requires : goal.append_place-requires
 append_place-requires c =
     let d = c.in_default in
     let t = in_text _ d.not-TwinName d.not-UnknownStore d.not-Unconfirmed d.not-ArchiveOnly d.not-ShortBuffer d.not-LongText d.not-BadImage d.not-BadStoreTable d.not-BadConfirmedList in
-    (c.requires.due.short t.0 t.1, omega arith)
+    omega (arith, c.requires.due.short t.0 t.1)
 
 pub returns-in-TwinName : goal.returns-in-TwinName
 unfolding detail_of

@@ -1,14 +1,14 @@
 -- Laws of the largest byte of a list, from a position on, and of the last byte that passes a test. Assumes nothing.
 use mathlib.Core.Path.{◌≡◌, refl}
 use mathlib.Core.Bool.{Bool, true, false, cond, and-false}
-use mathlib.Core.List.{List}
-use Prim.Native.Nat.{ℕ, zero, suc, ◌+◌, ◌-◌, ◌≤◌, ◌<◌, max}
+use mathlib.Core.List.{List, []}
+use Prim.Native.Nat.{ℕ, zero, suc, ◌+◌, ◌-◌, ◌≤◌, ◌<◌, min, max}
 use native.Mathlib.Numerals.{add-one}
 use native.Mathlib.Omega.{arith}
-use borrow.Author.Tests.{le-leb, lt-leb}
-use lib.Dec.{leb}
-use lib.ListN.{length, drop, get_or, drop_of_length-le}
-use lib.Seq.{drop-cons}
+use borrow.Author.Tests.{le-leb, lt-leb, ltb-true, ltb-false}
+use lib.Dec.{leb, ltb}
+use lib.ListN.{length, take, drop, get_or, length-drop, drop_of_length-le}
+use lib.Seq.{drop-cons, take_all}
 use Rattle.ascii.specs.Letters.{within}
 use Rattle.slices.specs.Text.{end_of_last}
 use Rattle.slices.specs.Inner.Search.{largest}
@@ -23,6 +23,23 @@ module _ (s : List ℕ) (i : ℕ) where
   pub largest_on : i < length s → largest (drop i s) ≡ max (get_or s i 0) (largest (drop (i + 1) s))
   unfolding largest
   largest_on h = rw (add-one, drop-cons s i 0 h)
+
+-- no byte is left after the end of the list
+drop_min : (s : List ℕ) (at m : ℕ) → m ≡ min at (length s) → drop m s ≡ drop at s
+drop_min s at m e = go (ltb (length s) at) refl
+  where
+    go : (v : Bool) → ltb (length s) at ≡ v → drop m s ≡ drop at s
+    go true h =
+        let l = ltb-true (length s) at h in
+        let p : drop m s ≡ [] = drop_of_length-le s (omega (arith, e, l)) in
+        let q : drop at s ≡ [] = drop_of_length-le s (omega (arith, l)) in
+        rw (p, q)
+    go false h = let q : m ≡ at = omega (arith, e, ltb-false (length s) at h) in rw q
+
+pub largest_init : (s : List ℕ) (at m : ℕ) → m ≡ min at (length s) → max 0 (largest (drop 0 (take (length s - m) (drop m s)))) ≡ largest (drop at s)
+largest_init s at m e =
+    let t : take (length s - m) (drop m s) ≡ drop m s = take_all (length s - m) (drop m s) (rw length-drop (omega arith)) in
+    rw (t, drop_min s at m e) (omega arith)
 
 -- ---- the position after the last byte that passes a test
 module _ (p : ℕ → Bool) (s : List ℕ) where

@@ -1,6 +1,6 @@
 -- Laws of runs and parts: where a run ends, by the byte at a position.
 -- Assumes nothing.
-use mathlib.Core.Path.{◌≡◌, refl, sym, ◌∙◌}
+use mathlib.Core.Path.{◌≡◌, sym, ◌∙◌}
 use mathlib.Core.Bool.{Bool, true, false, not, cond}
 use mathlib.Core.List.{List, [], ◌∷◌}
 use Prim.Native.Nat.{ℕ, suc, ◌+◌, ◌-◌, ◌≤◌, ◌<◌}
@@ -52,14 +52,6 @@ module _ (p : ℕ → Bool) (s : List ℕ) where
 
 -- ---- a run whose bytes a test is asked of one by one
 module _ (p : ℕ → Bool) (s : List ℕ) (i : ℕ) (h : i < length s) where
-  -- a run that ends further on has a byte here that passes the test
-  pub run_in : i < run_end p s i → p (get_or s i 0) ≡ true
-  run_in k = go (p (get_or s i 0)) refl
-    where
-      go : (v : Bool) → p (get_or s i 0) ≡ v → p (get_or s i 0) ≡ true
-      go true e = e
-      go false e = absurd (omega (arith, end_stop p s i h e))
-
   -- the run from a position on has come here, and r is what the test says of the byte here
   module _ (at : ℕ) (q : run_end p s i ≡ run_end p s at) {r : Bool} (e : r ≡ p (get_or s i 0)) where
     pub run_stop : not r ≡ true → i ≡ run_end p s at

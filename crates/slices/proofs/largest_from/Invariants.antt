@@ -5,5 +5,5 @@ use lib.ListN.{drop}
 use Rattle.slices.specs.Inner.Search.{largest}
 use Rattle.slices.proofs.largest_from.Given as goal
 
-abbrev pub invariant-loop-i : goal.invariant-loop-i
-invariant-loop-i l = max l.most (largest (drop l.i l.s)) ≡ largest (drop l.at l.s)
+abbrev pub invariant-loop-b : goal.invariant-loop-b
+invariant-loop-b l = max l.most (largest (drop l.b-index l.b-items)) ≡ largest (drop l.at l.s)

@@ -3,7 +3,7 @@ use mathlib.Core.Path.{refl, sym, ◌∙◌}
 use native.Mathlib.Omega.{arith}
 use Rattle.store_table.specs.Inner.Index.{Next}
 use Rattle.store_table.proofs.Laws.EntriesLaws.{seen_start, seen_end, seen_yes, seen_no}
-use Rattle.store_table.proofs.Laws.WalkLaws.{length_entries, name_start_small}
+use Rattle.store_table.proofs.Laws.WalkLaws.{length_entries, name_start_small, walk_at}
 use Rattle.store_table.proofs.Laws.IndexLaws.{indexed_start, indexed_next, finds_whether}
 use Rattle.store_index.proofs.twin_of.Goals as goal
 use Rattle.store_index.proofs.twin_of.Goals.{In-Some}
@@ -44,7 +44,7 @@ loop-place-preserved c =
       c.in-Some.ensures.steps.0 ∙ i.0,
       rw n.moved (seen_no i.1 n.at.here (rw (n.at.named, ← n.same) none)),
       rw (n.moved, c.enter.ensures.written.0, c.enter.ensures.written.1, n.same)
-          (indexed_next i.2 n.begins n.at.here (c.hash_of-hash.ensures.0 ∙ rw n.at.named)
+          (indexed_next i.2 (walk_at _ _ t.in_bounds n.begins) n.at.here (c.hash_of-hash.ensures.0 ∙ rw n.at.named)
           (omega (arith, n.below, t.in_bounds.few, c.enter.ensures.sizes.0)) (omega (arith, c.enter.ensures.sizes.1))),
     )
 

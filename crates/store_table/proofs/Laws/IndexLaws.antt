@@ -9,8 +9,8 @@ use Rattle.slices.proofs.Laws.WrittenLaws.{after_set}
 use Rattle.store_table.specs.Names.{same_name, has}
 use Rattle.store_table.proofs.Laws.SameLaws.{same_not}
 use Rattle.store_table.proofs.Laws.NamesLaws.{has_next}
-use Rattle.store_table.specs.Stores.{Entry, entries_in, all_names}
-use Rattle.store_table.specs.Inner.Index.{hash_of, EntryAt, NameAt, Finds, Indexed, Blank, name_start_at}
+use Rattle.store_table.specs.Stores.{Entry, entries_in, all_names, count_in}
+use Rattle.store_table.specs.Inner.Index.{hash_of, EntryAt, NameAt, Finds, Indexed, Blank, EntryWalk}
 use Rattle.std.specs.Prelude.{None, Option, Some, is_some}
 use Rattle.store_table.proofs.Laws.MemberLaws.{same_eq}
 use Rattle.store_table.proofs.Laws.EntryLaws.{has_at}
@@ -22,13 +22,6 @@ module _ {w : List ℕ} {es : List Entry} {first : ℕ} where
       record {
         missing = λ e. h;
         there = λ k e. absurd (cc);
-      }
-
-  pub finds_at : {k : ℕ} {x : Entry} → k < first → EntryAt es k x → same_name w x.name ≡ true → Finds w es first (Some k)
-  finds_at {k} {x} lt e p =
-      record {
-        missing = λ z. absurd (cc);
-        there = λ j z. let i : j ≡ k = cc in rw i (lt, (x, (e, p)));
       }
 
   -- it finds something exactly where one of the entries has the name
@@ -59,12 +52,12 @@ module _ {s starts slots : List ℕ} {k : ℕ} (h : Indexed s k starts slots) wh
   slot_empty w z = not-eq-not.0 (λ p. h.filled w p z)
 
   -- one entry more, x, whose name begins at `at`
-  module _ {at hash : ℕ} {x : Entry} (st : at ≡ name_start_at s k) (e : EntryAt (entries_in s) k x)
+  module _ {at hash : ℕ} {x : Entry} (st : EntryWalk s (count_in s) k at) (e : EntryAt (entries_in s) k x)
       (q : hash ≡ hash_of x.name) (room : k < length starts) (slot : hash < length slots) where
     pub indexed_next : Indexed s (k + 1) (set starts k at) (set slots hash (k + 1))
     indexed_next =
         record {
-          begins = λ j lt. after_set (λ v. v ≡ name_start_at s j) starts k at j room (λ z. rw z st) (λ n. h.begins j (omega arith));
+          begins = λ j lt. after_set (EntryWalk s (count_in s) j) starts k at j room (λ z. rw z st) (λ n. h.begins j (omega arith));
           kept = λ g. after_set (λ v. v ≤ k + 1) slots hash (k + 1) g slot (λ z. omega arith) (λ n. omega (arith, h.kept g));
           filled = λ w p. after_set (λ v. v ≡ 0 → ⊥) slots hash (k + 1) (hash_of w) slot (λ z o. omega arith) (λ n. h.filled w (among w n p));
         }

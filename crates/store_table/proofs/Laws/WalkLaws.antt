@@ -11,7 +11,7 @@ use Rattle.little_endian.proofs.Laws.BytesLaws.{bytes_at}
 use Rattle.store_table.specs.Stores.{modes_start, lengths_start, names_start, Entry, entries_from, entries_in, count_in, modes_in, lengths_in, name_bytes_in, sum}
 use Rattle.store_table.specs.Inner.Bounds.{TableInBounds}
 use Rattle.store_table.proofs.Laws.PartLaws.{part_get}
-use Rattle.store_table.specs.Inner.Index.{EntryAt, NameAt, length_at, name_start_at}
+use Rattle.store_table.specs.Inner.Index.{EntryAt, EntryWalk, NameAt, length_at, name_start_at}
 
 -- ---- there are as many entries as the count says
 length_from : (n : ℕ) (ms ls bs : List ℕ) → length ms ≡ n → length ls ≡ n → length (entries_from ms ls bs) ≡ n
@@ -76,12 +76,12 @@ sum_next [] k lt = absurd (omega arith)
 sum_next (l ∷ ls) zero lt = omega arith
 sum_next (l ∷ ls) (suc k) lt = let z = sum_next ls k (omega arith) in omega arith
 
-sum_within : (ls : List ℕ) (k : ℕ) → sum (take k ls) ≤ sum ls
+sum_parts : (ls : List ℕ) (k : ℕ) → sum (take k ls) + sum (drop k ls) ≡ sum ls
 unfolding sum
-sum_within [] zero = omega arith
-sum_within [] (suc k) = omega arith
-sum_within (l ∷ ls) zero = omega arith
-sum_within (l ∷ ls) (suc k) = omega (arith, sum_within ls k)
+sum_parts [] zero = omega arith
+sum_parts [] (suc k) = omega arith
+sum_parts (l ∷ ls) zero = omega arith
+sum_parts (l ∷ ls) (suc k) = omega (arith, sum_parts ls k)
 
 sum_small : (ls : List ℕ) (k : ℕ) → AllBytes ls → sum (take k ls) ≤ 255 * k
 unfolding sum
@@ -95,38 +95,50 @@ pub name_start_small : (s : List ℕ) (k : ℕ) → TableInBounds s → AllBytes
 name_start_small s k h b le =
     omega (arith, h.few, sum_small (lengths_in s) k (bytes_at s (lengths_start (count_in s)) (count_in s) b))
 
+-- a walk is there after the lengths before each entry
+pub walk_at : (s : List ℕ) (k : ℕ) {start : ℕ} → TableInBounds s → start ≡ name_start_at s k → EntryWalk s (count_in s) k start
+unfolding entries_in
+walk_at s k h e =
+    record {
+      in_bounds = h;
+      counted = refl;
+      fills = omega (arith, e, sum_parts (lengths_in s) k, h.names);
+      rest = rest_from (modes_in s) (lengths_in s) (name_bytes_in s) k ∙ rw (e, drop-drop);
+    }
+
+lengths_count : (s : List ℕ) → TableInBounds s → length (lengths_in s) ≡ count_in s
+lengths_count s h = length-take-le _ _ (simp length-drop (omega arith))
+
+pub name_start_next : (s : List ℕ) (k : ℕ) → TableInBounds s → k < count_in s → name_start_at s k + length_at s k ≡ name_start_at s (k + 1)
+name_start_next s k h lt = omega (arith, rw (← add-one) at (sum_next (lengths_in s) k (omega (arith, lengths_count s h))))
+
 -- one entry more, k, of a table or a list
-module _ (s : List ℕ) (k : ℕ) (h : TableInBounds s) (lt : k < count_in s) where
-  lengths_count : length (lengths_in s) ≡ count_in s
-  lengths_count = length-take-le _ _ (simp length-drop (omega arith))
+module _ {s : List ℕ} {k start : ℕ} (h : EntryWalk s (count_in s) k start) (lt : k < count_in s) where
+  pub name_within : start + length_at s k ≤ length s
+  unfolding sum
+  name_within =
+      let z = rw (drop-cons (lengths_in s) k 0 (omega (arith, lengths_count s h.in_bounds))) at h.fills in
+      omega (arith, z)
 
-  pub name_start_next : name_start_at s k + length_at s k ≡ name_start_at s (k + 1)
-  name_start_next = omega (arith, rw (← add-one) at (sum_next (lengths_in s) k (omega (arith, lengths_count))))
-
-  pub name_within : name_start_at s k + length_at s k ≤ length s
-  name_within = omega (arith, name_start_next, sum_within (lengths_in s) (k + 1), h.names)
-
-  -- entry k, whose name has as many bytes as its length says from where it begins
+  -- entry k, whose name has as many bytes as its length says from there on
   abbrev entry_at : Entry
-  entry_at = record { mode = get_or (modes_in s) k 0; name = take (length_at s k) (drop (name_start_at s k) s) }
+  entry_at = record { mode = get_or (modes_in s) k 0; name = take (length_at s k) (drop start s) }
 
   entry_first : (ys : List Entry) × (drop k (entries_in s) ≡ entry_at ∷ ys)
-  unfolding entries_in entries_from
+  unfolding entries_from
   entry_first = (
-    entries_from (drop (suc k) (modes_in s)) (drop (suc k) (lengths_in s)) (drop (name_start_at s k + length_at s k) s),
-    rest_from (modes_in s) (lengths_in s) (name_bytes_in s) k
+    entries_from (drop (suc k) (modes_in s)) (drop (suc k) (lengths_in s)) (drop (length_at s k) (drop start s)),
+    h.rest
         ∙ rw (
-          drop-cons (modes_in s) k 0 (omega (arith, length-take-le (count_in s) (drop modes_start s) (simp length-drop (omega arith)))),
-          drop-cons (lengths_in s) k 0 (omega (arith, lengths_count)),
-          drop-drop,
-          drop-drop,
+          drop-cons (modes_in s) k 0 (omega (arith, h.in_bounds.arrays, length-take-le (count_in s) (drop modes_start s) (simp length-drop (omega arith)))),
+          drop-cons (lengths_in s) k 0 (omega (arith, lengths_count s h.in_bounds)),
         ),
   )
 
-  -- what the bytes from where its name begins say
-  pub name_here : {start len : ℕ} → start ≡ name_start_at s k → len ≡ length_at s k → len < 256 → NameAt s k start (take (start + len - start) (drop start s))
-  name_here {start} {len} p q few =
-      let (x, e) = entry_there s k h lt in
+  -- what the bytes from there on say
+  pub name_here : {len : ℕ} → len ≡ length_at s k → len < 256 → NameAt s k start (take (start + len - start) (drop start s))
+  name_here {len} q few =
+      let (x, e) = entry_there s k h.in_bounds lt in
       let (ys, f) = entry_first in
       let z : start + len - start ≡ length_at s k = omega arith in
       let fits : start + len ≤ length s = omega (arith, name_within) in
@@ -134,8 +146,8 @@ module _ (s : List ℕ) (k : ℕ) (h : TableInBounds s) (lt : k < count_in s) wh
       record {
         entry = x;
         here = e;
-        named = let w : x ≡ entry_at = cc in rw (w, z, p);
-        next = omega (arith, name_start_next);
+        named = let w : x ≡ entry_at = cc in rw (w, z);
+        long = omega arith;
         within = omega arith;
         small = omega arith;
       }

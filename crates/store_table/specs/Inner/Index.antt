@@ -3,7 +3,8 @@
 use Rattle.std.specs.Prelude.{ℕ, ◌+◌, ◌-◌, ◌*◌, ◌/◌, ◌%◌, ◌≤◌, ◌<◌, ◌≡◌, Bool, true, false, cond, List, ◌∷◌, leb, length, get_or, take, drop, None, Option, Some}
 use Rattle.little_endian.specs.Bytes.{le_at}
 use Rattle.store_table.specs.Names.{same_name, has}
-use Rattle.store_table.specs.Stores.{Entry, count_in, lengths_in, names_start, entries_in, sum, all_names}
+use Rattle.store_table.specs.Stores.{Entry, entries_from, count_in, modes_in, lengths_in, names_start, entries_in, sum, all_names}
+use Rattle.store_table.specs.Inner.Bounds.{TableInBounds}
 
 -- a number made of a name's first and last bytes
 unfoldable pub key_of : List ℕ → ℕ
@@ -19,6 +20,14 @@ unfoldable pub hash_of : List ℕ → ℕ
 unfolding key_of
 hash_of w = (key_of w / 4294967296 + key_of w % 4294967296) * 1640531527 / 16777216 % 512
 
+-- where a walk is after k entries: the next name begins at `at`, the names that are left lie within the bytes, and the
+-- entries that are left are cut from there
+pub record EntryWalk (s : List ℕ) (count k at : ℕ) : Type 0 where
+  pub in_bounds : TableInBounds s
+  pub counted : count ≡ count_in s
+  pub fills : at + sum (drop k (lengths_in s)) ≤ length s
+  pub rest : drop k (entries_in s) ≡ entries_from (drop k (modes_in s)) (drop k (lengths_in s)) (drop at s)
+
 -- the length of the name of entry k
 abbrev pub length_at : List ℕ → ℕ → ℕ
 length_at s k = get_or (lengths_in s) k 0
@@ -31,12 +40,12 @@ name_start_at s k = names_start (count_in s) + sum (take k (lengths_in s))
 abbrev pub EntryAt : List Entry → ℕ → Entry → Type 0
 EntryAt es k x = drop k es ≡ x ∷ drop (k + 1) es
 
--- entry k has this name, which begins at `start`, and the next name begins where it ends
+-- entry k has this name, of the length that the table says, and it lies within the bytes from `start` on
 pub record NameAt (s : List ℕ) (k start : ℕ) (name : List ℕ) : Type 0 where
   pub entry : Entry
   pub here : EntryAt (entries_in s) k entry
   pub named : entry.name ≡ name
-  pub next : start + length name ≡ name_start_at s (k + 1)
+  pub long : length name ≡ length_at s k
   pub within : start + length name ≤ length s
   pub small : length name < 256
 
@@ -56,7 +65,7 @@ pub record Finds (w : List ℕ) (es : List Entry) (first : ℕ) (r : Option ℕ)
 -- the first entries are indexed: where their names begin; each slot holds nothing (0) or one of them, plus 1; and the slot of
 -- each of their names holds something
 pub record Indexed (s : List ℕ) (first : ℕ) (starts slots : List ℕ) : Type 0 where
-  pub begins : (k : ℕ) → k < first → get_or starts k 0 ≡ name_start_at s k
+  pub begins : (k : ℕ) → k < first → EntryWalk s (count_in s) k (get_or starts k 0)
   pub kept : (h : ℕ) → get_or slots h 0 ≤ first
   pub filled : (w : List ℕ) → has w (all_names (take first (entries_in s))) ≡ true → get_or slots (hash_of w) 0 ≡ 0 → ⊥
 

@@ -5,5 +5,5 @@ use lib.ListN.{drop}
 use Rattle.decimal.specs.Count.{count_from, count_of}
 use Rattle.decimal.proofs.count.parse_count.Given as goal
 
-abbrev pub invariant-loop-i : goal.invariant-loop-i
-invariant-loop-i l = (l.value < 2 ^ 64) × (count_from l.value (drop l.i l.word) ≡ count_of l.word)
+abbrev pub invariant-loop-b : goal.invariant-loop-b
+invariant-loop-b l = (l.value < 2 ^ 64) × (count_from l.value (drop l.b-index l.b-items) ≡ count_of l.word)

@@ -1,13 +1,13 @@
 -- `durations::duration::part_at` meets its contract, by the laws of a part. Assumes nothing.
-use mathlib.Core.Path.{◌≡◌, sym, ap, ◌∙◌}
+use mathlib.Core.Path.{◌≡◌, sym, ◌∙◌}
 use Prim.Native.Nat.{◌≤◌}
 use native.Mathlib.Omega.{arith}
-use lib.ListN.{length}
+use lib.ListN.{length, length-take}
 use Rattle.ascii.specs.Letters.{equal}
 use Rattle.slices.specs.Text.{part}
 use Rattle.slices.proofs.Laws.TextLaws.{end_within}
-use Rattle.durations.specs.Inner.Units.{unit_at}
-use Rattle.durations.proofs.Laws.DurationLaws.{amount_small, part_none, part_long, part_other, part_found}
+use Rattle.durations.specs.Inner.Units.{unit_of}
+use Rattle.durations.proofs.Laws.DurationLaws.{run_digits, amount_small, part_none, part_long, part_other, part_found}
 use Rattle.durations.proofs.duration.part_at.Goals as goal
 use Rattle.durations.proofs.duration.part_at.Goals.{After-eq, After-unit_end-end}
 
@@ -44,23 +44,30 @@ slice_bounds-eq-end c = (ends (goal.at.slice_bounds-eq-end c).After-unit_end-end
 -- what is compared is the name in the word and the unit's
 named : (c : After-eq) →
     let entry = c.args in
-    c.eq.result ≡ equal (part entry.word.now c.class_end-start.result c.unit_end-end.result) (unit_at entry.rank).name
+    c.eq.result ≡ equal (part entry.word.now c.class_end-start.result c.unit_end-end.result) (unit_of entry.unit.now).name
 unfolding part
-named c = c.eq.ensures ∙ ap (equal _) c.time_unit-unit.ensures.name
+named c = c.eq.ensures
+
+pub slice_bounds-decimal_of-count : goal.slice_bounds-decimal_of-count
+slice_bounds-decimal_of-count c = (ends (goal.at.slice_bounds-decimal_of-count c).After-unit_end-end).0
+
+pub slice_bounds-decimal_of-start : goal.slice_bounds-decimal_of-start
+slice_bounds-decimal_of-start c = (ends (goal.at.slice_bounds-decimal_of-start c).After-unit_end-end).0
+
+pub slice_bounds-decimal_of-end : goal.slice_bounds-decimal_of-end
+slice_bounds-decimal_of-end c = (ends (goal.at.slice_bounds-decimal_of-end c).After-unit_end-end).1
 
 pub decimal_of-requires : goal.decimal_of-requires
-decimal_of-requires c =
-    let l = ends (goal.at.decimal_of-requires c).After-unit_end-end in
-    (l.0, (omega arith, (omega (arith, c.if-at-digits.false), sym c.digits_end-digits.ensures)))
+decimal_of-requires c = (rw length-take (omega (arith, c.if-at-digits.false)), run_digits _ c.args.at c.digits_end-digits.ensures)
 
 pub overflow_mul-result : goal.overflow_mul-result
 overflow_mul-result c =
-    let entry = c.args in
-    omega (arith, amount_small entry.rank c.decimal_of.ensures.1 c.time_unit-unit.ensures.milliseconds)
+    omega (arith, amount_small c.decimal_of.ensures.1 c.requires.1)
 
 pub returns-then-eq : goal.returns-then-eq
+unfolding part
 returns-then-eq c =
-    rw (c.decimal_of.ensures.0, c.time_unit-unit.ensures.milliseconds, c.class_end-next.ensures)
+    rw (c.decimal_of.ensures.0, c.class_end-next.ensures)
     (sym
     (part_found _ _ _ c.digits_end-digits.ensures c.class_end-start.ensures c.unit_end-end.ensures c.if-digits-at.false
     (omega (arith, c.if-at-digits.false)) (sym (named (goal.at.returns-then-eq c).After-eq) ∙ c.if-eq.true)))

@@ -1,116 +1,151 @@
 -- `print_text::size::text_size` meets its contract: the walk over the children keeps the bytes of the text that was passed, and each child
 -- has fewer nodes than its parent.
-use Rattle.std.proofs.Common.{◌≡◌, sym, ◌∙◌, ℕ, List, ◌+◌, ◌-◌, ◌≤◌, ◌<◌, length, length-append, arith}
+use Rattle.std.proofs.Common.{◌≡◌, refl, sym, subst, ◌∙◌, ℕ, List, ◌+◌, ◌-◌, ◌≤◌, ◌<◌, length, length-append, arith}
 use Rattle.rules.specs.Rule.{Rule, size}
-use Rattle.image.specs.Decode.{cell_at}
+use lib.Dec.{eqb}
+use Rattle.image.specs.Decode.{cell_at, node_at}
 use Rattle.image.specs.Inner.EncodedAt.{EncodedAt}
-use Rattle.image.specs.Inner.Subtree.{NodeRow}
+use Rattle.image.specs.Inner.Subtree.{ValidSubtree}
 use Rattle.image.specs.Inner.Valid.{node_of}
 use Rattle.image.proofs.Laws.EncodeLaws.{size_pos}
-use Rattle.image.proofs.Laws.WholeLaws.{few, its_name}
+use Rattle.image.proofs.Laws.CellLaws.{cell_what, name_inside}
+use Rattle.image.proofs.Laws.KindLaws.{no_leaf}
+use Rattle.image.proofs.Laws.SiblingLaws.{children_stand}
 use Rattle.print_text.specs.Print.{text_of}
-use Rattle.print_text.specs.Inner.Pieces.{opening_of}
+use Rattle.print_text.specs.Inner.Pieces.{opening_of, front_of, back_of}
 use Rattle.print_text.proofs.Laws.ChildrenLaws.{TextWalks, walks_start, Turn, turn, turn_room, walks_next, walks_done, leaf_text_lem, text_short}
 use Rattle.print_text.proofs.size.+text_size.Goals as goal
 use Rattle.print_text.proofs.size.+text_size.Goals.{After-around_size-total, After-leaf_size-total}
 
 -- at entry there is a node, and the last one is within the image
-the_node : {s : List ℕ} {n from k : ℕ} → NodeRow s n from k → (0 < k) × (from + k ≤ n)
+the_node : {s : List ℕ} {n from k : ℕ} → ValidSubtree s n from k → (0 < k) × (from + k ≤ n)
 the_node h = (omega (arith, size_pos h.here.rule, h.here.sized), h.within)
 
--- the child that a turn counts
+-- where the child that a turn counts begins, and what surrounds its text
+the_start : (t : ℕ) (c : After-around_size-total t) → c.in-Some.child.start ≡ c.loop-child.child-iterator.end - c.in-Some.child.node.size
+the_start t c = omega (arith, c.in-Some.ensures.steps.3.2)
+
+the_around : (t : ℕ) (c : After-around_size-total t) →
+    let k = c.node-root.result.kind in
+    let d = c.in-Some.child.node in
+    c.around_size-total.result ≡ length (front_of k d.kind) + length (back_of k d.kind (eqb c.loop-child.child-iterator.end (c.args.from + c.args.size - 1)))
+the_around t c = rw c.in-Some.ensures.steps.3.4 at c.around_size-total.ensures
+
+-- its node
+the_read : (t : ℕ) (c : After-around_size-total t) →
+    node_of c.in-Some.child.node ≡ node_at c.args.nodes.bytes.now c.args.nodes.count (c.loop-child.child-iterator.end - 1)
+the_read t c = let i = c.loop-child.invariant in rw (i.0, i.1) at c.in-Some.ensures.steps.3.1
+
+-- the child
 the_turn : (t : ℕ) (c : After-around_size-total t) →
     let d = c.node-root.result in
-    let total = c.loop-end.total in
-    Turn c.args.image.bytes.now c.args.image.nodes d.kind d.arg c.args.from c.args.size
-    c.loop-end.end (λ t. total ≡ length (opening_of d.kind d.arg) + length t)
-    c.requires.here.rule (node_of c.node-child.result)
+    let total = c.loop-child.total in
+    Turn c.args.nodes.bytes.now c.args.nodes.count d.kind d.arg c.args.from c.args.size
+    c.loop-child.child-iterator.end (λ t. total ≡ length (opening_of d.kind d.arg) + length t)
+    c.requires.0.here.rule (node_of c.in-Some.child.node)
 the_turn t c =
-    let h = c.requires.here in
-    let i = c.loop-end.invariant in
-    turn _ _ _ _ _ i.1 i.0 c.loop-end-test.true c.node-child.ensures h.rule h.sized h.stands
+    let h = c.requires.0.here in
+    let i = c.loop-child.invariant in
+    turn _ _ _ _ _ i.4 i.3 (rw i.2 at c.in-Some.ensures.steps.3.0) (the_read t c) h.rule h.sized h.stands
+
+the_stands : (t : ℕ) (c : After-around_size-total t) → EncodedAt (the_turn t c).child (cell_at c.args.nodes.bytes.now c.args.nodes.count) c.in-Some.child.start
+the_stands t c = let u = the_turn t c in subst (EncodedAt u.child (cell_at _ _)) (sym (the_start t c)) u.stands
 
 -- its bytes fit a number
 the_room : (t : ℕ) (c : After-around_size-total t) →
-    c.loop-end.total + c.around_size-total.result + length (text_of (the_turn t c).child) ≤ 134_348_800
+    c.loop-child.total + c.around_size-total.result + length (text_of (the_turn t c).child) ≤ 134_348_800
 the_room t c =
     let u = the_turn t c in
-    let h = c.requires.here in
-    omega (arith, turn_room _ _ u, u.holds, text_short _ _ h.rule _ h.stands, h.sized, the_node c.requires, few c.args.image)
-
--- fewer nodes are left
-the_less : (t : ℕ) (c : After-around_size-total t) → c.loop-end.end - c.node-child.result.size < c.loop-end.end
-the_less t c = let u = the_turn t c in omega (arith, u.some, u.fits)
+    let h = c.requires.0.here in
+    omega (arith, the_around t c, turn_room _ _ u, u.holds, text_short _ _ h.rule _ h.stands, h.sized, the_node c.requires.0, c.requires.1)
 
 -- r is how many bytes its own text has
 abbrev Counted : (t : ℕ) (c : After-around_size-total t) → ℕ → Type 0
 Counted t c r =
-    let d = c.node-child.result in
-    (q : Rule) → size q ≡ d.size → EncodedAt q (cell_at c.args.image.bytes.now c.args.image.nodes) (c.loop-end.end - d.size) → r ≡ length (text_of q)
+    let d = c.in-Some.child in
+    (q : Rule) → size q ≡ d.node.size → EncodedAt q (cell_at c.args.nodes.bytes.now c.args.nodes.count) d.start → r ≡ length (text_of q)
 
 -- so they have room, and the walk continues
 counted_room : (t : ℕ) (c : After-around_size-total t) {r : ℕ} →
-    Counted t c r → c.loop-end.total + c.around_size-total.result + r ≤ 134_348_800
+    Counted t c r → c.loop-child.total + c.around_size-total.result + r ≤ 134_348_800
 counted_room t c h =
     let u = the_turn t c in
-    omega (arith, the_room t c, h u.child u.sized u.stands)
+    omega (arith, the_room t c, h u.child u.sized (the_stands t c))
 
 counted_next : (t : ℕ) (c : After-around_size-total t) {r : ℕ} →
     Counted t c r →
     let d = c.node-root.result in
-    let i = c.loop-end in
-    let end = i.end - c.node-child.result.size in
-    (end ≤ c.args.from + c.args.size - 1)
-    × TextWalks c.args.image.bytes.now c.args.image.nodes d.kind d.arg c.args.from c.args.size end
+    let i = c.loop-child in
+    let k = c.next.new.self in
+    let a = c.args in
+    (k.nodes.bytes.now ≡ a.nodes.bytes.now) × (k.nodes.count ≡ a.nodes.count) × (k.from ≡ a.from) × (k.end ≤ a.from + a.size - 1)
+    × TextWalks a.nodes.bytes.now a.nodes.count d.kind d.arg a.from a.size k.end
     (λ t. i.total + c.around_size-total.result + r ≡ length (opening_of d.kind d.arg) + length t)
 counted_next t c h =
-    let i = c.loop-end.invariant in (
-      omega (arith, i.0),
-      walks_next _ _ _ _ _ i.1 i.0 c.loop-end-test.true c.node-child.ensures
-          (λ q v e st x. simp length-append (omega (arith, h q e st))),
+    let i = c.loop-child.invariant in
+    let steps = c.in-Some.ensures.steps in
+    let around = the_around t c in (
+      steps.0 ∙ i.0,
+      steps.1 ∙ i.1,
+      steps.2 ∙ i.2,
+      omega (arith, i.3, steps.3.2, steps.3.3),
+      rw (steps.3.3, the_start t c)
+          (walks_next _ _ _ _ _ i.4 i.3 (rw i.2 at steps.3.0) (the_read t c)
+          (λ q v e st x. simp length-append (omega (arith, around, h q e (rw (the_start t c) st))))),
     )
 
 pub overflow_sub-at : goal.overflow_sub-at
-overflow_sub-at t c = omega (arith, the_node c.requires)
+overflow_sub-at t c = omega (arith, the_node c.requires.0)
 
 pub node-root-requires : goal.node-root-requires
-node-root-requires t c = omega (arith, the_node c.requires)
+node-root-requires t c = omega (arith, the_node c.requires.0)
 
 pub leaf_size-requires : goal.leaf_size-requires
-leaf_size-requires t c = its_name c.args.image _ c.node-root.ensures (omega (arith, the_node c.requires))
+leaf_size-requires t c = name_inside _ _ _ c.node-root.ensures c.requires.0.names (omega (arith, the_node c.requires.0))
 
 pub returns-then-is_leaf : goal.returns-then-is_leaf
 returns-then-is_leaf t c = λ ρ e st.
-    rw (leaf_text_lem _ _ _ _ _ c.node-root.ensures (omega (arith, the_node c.requires))
+    rw (leaf_text_lem _ _ _ _ _ c.node-root.ensures (omega (arith, the_node c.requires.0))
     (sym c.is_leaf.ensures ∙ c.if-is_leaf.true) ρ e st) at c.leaf_size.ensures
 
-pub loop-end-init : goal.loop-end-init
-loop-end-init t c = (
-  omega arith,
-  walks_start _ _ _ _ _ c.node-root.ensures (omega (arith, the_node c.requires))
-      (sym c.is_leaf.ensures ∙ c.if-is_leaf.false) (omega arith),
-)
+pub children-child-items-requires : goal.children-child-items-requires
+children-child-items-requires t c =
+    let h = c.requires.0 in
+    let d = c.node-root in (
+      ∣ children_stand h.here (λ l e. no_leaf _ _ d.result.kind d.result.arg (sym c.is_leaf.ensures ∙ c.if-is_leaf.false) l (cell_what _ _ _ d.ensures ∙ e)) ∣₁,
+      omega (arith, the_node h),
+    )
 
-pub node-child-requires : goal.node-child-requires
-node-child-requires t c = omega (arith, c.loop-end.invariant.0, the_node c.requires)
+pub loop-child-init : goal.loop-child-init
+loop-child-init t c =
+    let e = c.children-child-items.ensures in
+    rw (c.into_iter-child-iterator.ensures.into_iter_gives, e.0, e.1, e.2, e.3) (
+      refl,
+      refl,
+      refl,
+      omega arith,
+      walks_start _ _ _ _ _ c.node-root.ensures (omega (arith, the_node c.requires.0))
+          (sym c.is_leaf.ensures ∙ c.if-is_leaf.false) (omega arith),
+    )
 
 pub overflow_add-total : goal.overflow_add-total
 overflow_add-total t c = omega (arith, the_room t c)
 
-pub overflow_sub-end-in-loop-end : goal.overflow_sub-end-in-loop-end
-overflow_sub-end-in-loop-end t c = omega (arith, (the_turn t c).fits)
-
 pub leaf_size-total-requires : goal.leaf_size-total-requires
 leaf_size-total-requires t c =
-    its_name c.args.image _ c.node-child.ensures (omega (arith, c.loop-end.invariant.0, the_node c.requires))
+    let at = (goal.at.leaf_size-total-requires t c).After-around_size-total in
+    name_inside _ _ _ (the_read t at) c.requires.0.names (omega (arith, c.loop-child.invariant.3, the_node c.requires.0))
 
-leaf_counted : (t : ℕ) (c : After-leaf_size-total t) → let d = c.node-child.result in
-    0 < d.size → d.size ≤ c.loop-end.end →
-    (q : Rule) → size q ≡ d.size → EncodedAt q (cell_at c.args.image.bytes.now c.args.image.nodes) (c.loop-end.end - d.size) →
+-- a leaf's bytes
+leaf_counted : (t : ℕ) (c : After-leaf_size-total t) → let d = c.in-Some.child in
+    0 < d.node.size → d.node.size ≤ c.loop-child.child-iterator.end →
+    (q : Rule) → size q ≡ d.node.size → EncodedAt q (cell_at c.args.nodes.bytes.now c.args.nodes.count) d.start →
     c.leaf_size-total.result ≡ length (text_of q)
 leaf_counted t c some fits q e st =
-    rw (leaf_text_lem _ _ _ _ _ c.node-child.ensures (omega arith)
-    (sym c.is_leaf-in-loop-end.ensures ∙ c.if-is_leaf-2.true) q e st) at c.leaf_size-total.ensures
+    let i = c.loop-child.invariant in
+    let steps = c.in-Some.ensures.steps in
+    rw (leaf_text_lem _ _ _ _ _ (rw (i.0, i.1) at steps.3.1) (omega (arith, steps.3.2))
+    (sym c.is_leaf-in-loop-child.ensures ∙ c.if-is_leaf-2.true) q e st) at c.leaf_size-total.ensures
 
 pub overflow_add-total-then-is_leaf-2 : goal.overflow_add-total-then-is_leaf-2
 overflow_add-total-then-is_leaf-2 t c =
@@ -118,38 +153,44 @@ overflow_add-total-then-is_leaf-2 t c =
     let u = the_turn t d in
     omega (arith, counted_room t d (leaf_counted t c u.some (omega (arith, u.fits))))
 
-pub loop-end-smaller-then-is_leaf-2 : goal.loop-end-smaller-then-is_leaf-2
-loop-end-smaller-then-is_leaf-2 t c = the_less t (goal.at.loop-end-smaller-then-is_leaf-2 t c).After-around_size-total
-
-pub loop-end-preserved-then-is_leaf-2 : goal.loop-end-preserved-then-is_leaf-2
-loop-end-preserved-then-is_leaf-2 t c =
-    let d = (goal.at.loop-end-preserved-then-is_leaf-2 t c).After-around_size-total in
+pub loop-child-preserved-then-is_leaf-2 : goal.loop-child-preserved-then-is_leaf-2
+loop-child-preserved-then-is_leaf-2 t c =
+    let d = (goal.at.loop-child-preserved-then-is_leaf-2 t c).After-around_size-total in
     let u = the_turn t d in
     counted_next t d (leaf_counted t c u.some (omega (arith, u.fits)))
 
 pub text_size-total-requires : goal.text_size-total-requires
 text_size-total-requires t c =
-    let h = c.requires in
+    let h = c.requires.0 in
     let n = the_node h in
-    let u = the_turn t (goal.at.text_size-total-requires t c).After-around_size-total in
+    let d = (goal.at.text_size-total-requires t c).After-around_size-total in
+    let u = the_turn t d in
     let p = u.some in
     let q = u.fits in
-    let le = c.loop-end.invariant.0 in (
+    let start = the_start t d in
+    let le = c.loop-child.invariant.3 in (
       omega (arith, c.decreases),
-      record { long = h.long; within = omega arith; here = record { rule = u.child; sized = u.sized; stands = u.stands } },
+      (
+        record {
+          long = h.long;
+          names = h.names;
+          within = omega arith;
+          here = record { rule = u.child; sized = u.sized; stands = the_stands t d };
+        },
+        c.requires.1,
+      ),
     )
 
 pub overflow_add-total-else-is_leaf-2 : goal.overflow_add-total-else-is_leaf-2
 overflow_add-total-else-is_leaf-2 t c =
     omega (arith, counted_room t (goal.at.overflow_add-total-else-is_leaf-2 t c).After-around_size-total c.text_size-total.ensures)
 
-pub loop-end-smaller : goal.loop-end-smaller
-loop-end-smaller t c = the_less t (goal.at.loop-end-smaller t c).After-around_size-total
-
-pub loop-end-preserved : goal.loop-end-preserved
-loop-end-preserved t c = counted_next t (goal.at.loop-end-preserved t c).After-around_size-total c.text_size-total.ensures
+pub loop-child-preserved : goal.loop-child-preserved
+loop-child-preserved t c = counted_next t (goal.at.loop-child-preserved t c).After-around_size-total c.text_size-total.ensures
 
 pub returns : goal.returns
 returns t c = λ ρ e st.
-    let (t, p, h) = walks_done c.args.image.bytes.now c.args.image.nodes c.args.from c.args.size c.loop-end.end c.loop-end.invariant.1 c.loop-end-test.false ρ e st in
+    let i = c.loop-child.invariant in
+    let (t, p, h) = walks_done c.args.nodes.bytes.now c.args.nodes.count c.args.from c.args.size c.loop-child.child-iterator.end i.4
+    (rw i.2 at c.in-None.ensures.steps.3.0) ρ e st in
     rw p (rw length-append h)

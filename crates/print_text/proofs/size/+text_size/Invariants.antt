@@ -8,9 +8,8 @@ use Rattle.print_text.proofs.size.+text_size.Given as goal
 abbrev pub decreases-text_size : goal.decreases-text_size
 decreases-text_size l = l.size
 
-abbrev pub invariant-loop-end : goal.invariant-loop-end
-invariant-loop-end l =
-    (l.end ≤ l.from + l.size - 1) × TextWalks l.image.bytes.now l.image.nodes l.root.kind l.root.arg l.from l.size l.end (λ t. l.total ≡ length (opening_of l.root.kind l.root.arg) + length t)
-
-abbrev pub decreases-loop-end : goal.decreases-loop-end
-decreases-loop-end l = l.end
+abbrev pub invariant-loop-child : goal.invariant-loop-child
+invariant-loop-child l =
+    let i = l.child-iterator in
+    (i.nodes.bytes.now ≡ l.nodes.bytes.now) × (i.nodes.count ≡ l.nodes.count) × (i.from ≡ l.from) × (i.end ≤ l.from + l.size - 1)
+    × TextWalks l.nodes.bytes.now l.nodes.count l.root.kind l.root.arg l.from l.size i.end (λ t. l.total ≡ length (opening_of l.root.kind l.root.arg) + length t)

@@ -1,7 +1,6 @@
 -- `safety::check::check_rule` meets its contract: an image has at most 2,048 nodes. Assumes nothing.
 use native.Mathlib.Omega.{arith}
-use Rattle.image.proofs.Laws.WholeLaws.{few}
 use Rattle.safety.proofs.check.check_rule.Goals as goal
 
 pub check_within-requires-2 : goal.check_within-requires-2
-check_within-requires-2 c = (few c.args.image, omega arith)
+check_within-requires-2 c = (c.requires, omega arith)

@@ -4,10 +4,10 @@ use Rattle.store_table.proofs.Laws.WalkLaws.{name_within, name_here}
 use Rattle.store_table.proofs.Table.name.Goals as goal
 
 pub overflow_add-end : goal.overflow_add-end
-overflow_add-end c = omega (arith, name_within _ _ c.args.self.in_bounds c.requires.0)
+overflow_add-end c = omega (arith, name_within c.requires.1 c.requires.0)
 
 pub slice_bounds-result-end : goal.slice_bounds-result-end
-slice_bounds-result-end c = omega (arith, name_within _ _ c.args.self.in_bounds c.requires.0)
+slice_bounds-result-end c = omega (arith, name_within c.requires.1 c.requires.0)
 
 pub returns : goal.returns
-returns c = name_here _ _ c.args.self.in_bounds c.requires.0 c.requires.1 c.name_length.ensures.0 c.name_length.ensures.1
+returns c = name_here c.requires.1 c.requires.0 c.name_length.ensures.0 c.name_length.ensures.1

@@ -7,4 +7,4 @@ use Rattle.store_table.proofs.Table.name_length.Goals as goal
 
 pub returns : goal.returns
 returns c =
-    (c.from.ensures ∙ length_of _ c.args.k c.args.self.in_bounds c.count.ensures.0 (omega arith), omega (arith, c.args.self.are_bytes (4 + c.count.result + c.args.k)))
+    (c.from.ensures ∙ length_of _ c.args.k c.args.self.in_bounds c.count-count.ensures.0 (omega arith), omega (arith, c.args.self.are_bytes (4 + c.count-count.result + c.args.k)))

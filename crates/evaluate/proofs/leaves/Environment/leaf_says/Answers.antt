@@ -11,13 +11,13 @@ name-requires c = c.requires c.in-0.is
 pub returns-in-0 : goal.returns-in-0
 returns-in-0 c = λ l e.
     let s = c.args.self in
-    says_named _ _ _ (env_in s.confirmed.stores.table.bytes.now s.age s.confirmed.list.bytes.now) l e c.in-0.is c.name.ensures c.is_confirmed.ensures
+    says_named _ _ _ (env_in s.confirmed.list.bytes.now s.age s.ready) l e c.in-0.is c.name.ensures c.is_confirmed.ensures
 
 pub returns-in-1 : goal.returns-in-1
 returns-in-1 c = λ l e. says_older _ _ _ _ l e c.in-1.is
 
 pub returns-in-2 : goal.returns-in-2
-returns-in-2 c = λ l e. rw c.args.self.counted (says_readable _ _ _ _ l e c.in-2.is)
+returns-in-2 c = λ l e. says_readable _ _ _ _ l e c.in-2.is
 
 pub returns-in_default : goal.returns-in_default
 returns-in_default c = λ l e. absurd (no_leaf _ _ _ _ (other_kind _ (λ q. omega arith) (λ q. omega arith) (λ q. omega arith)) l e)

@@ -3,4 +3,4 @@ use Rattle.evaluate.specs.Inner.Known.{env_in, SaidTo}
 use Rattle.evaluate.proofs.leaves.Environment.say_leaves.Given as goal
 
 abbrev pub invariant-loop-i : goal.invariant-loop-i
-invariant-loop-i l = SaidTo l.image.bytes.now l.image.nodes l.says 1 (env_in l.self.confirmed.stores.table.bytes.now l.self.age l.self.confirmed.list.bytes.now) l.i
+invariant-loop-i l = SaidTo l.image.bytes.now l.image.nodes l.says 1 (env_in l.self.confirmed.list.bytes.now l.self.age l.self.ready) l.i

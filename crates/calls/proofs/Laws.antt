@@ -1,0 +1,2 @@
+pub mod BracketLaws
+pub mod CountLaws
