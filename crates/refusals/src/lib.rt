@@ -3,6 +3,7 @@
 
 ghost use Rattle.std.specs.Prelude.{◌≡◌};
 ghost use Rattle.refusals.specs.Refusals.{number, word, meaning, refusal};
+ghost use Rattle.refusals.specs.Inner.Rows.{cause_of, row_of, IsRow};
 
 // Why a call refuses what it is given.
 #[derive(Clone, Copy, PartialEq, Eq)]
@@ -67,6 +68,38 @@ impl Cause {
         ensures { result ≡ number self }
     {
         self as u8
+    }
+
+    // The cause of a number, or None where no refusal has it.
+    #[tactic(auto, unfolding(crate::specs::Inner::Rows::cause_of))]
+    pub fn of_number(number: u8) -> Option<Cause>
+        ensures { result ≡ cause_of number }
+    {
+        match number {
+            1 => Some(Cause::ShortBuffer),
+            2 => Some(Cause::LongText),
+            3 => Some(Cause::ForeignByte),
+            4 => Some(Cause::HalfSign),
+            5 => Some(Cause::OpenQuote),
+            6 => Some(Cause::StrayCharacter),
+            7 => Some(Cause::NoExpression),
+            8 => Some(Cause::BracketExpected),
+            9 => Some(Cause::TrailingToken),
+            10 => Some(Cause::UnknownFunction),
+            11 => Some(Cause::MissingArgument),
+            12 => Some(Cause::BadCount),
+            13 => Some(Cause::BadDuration),
+            14 => Some(Cause::EmptyList),
+            15 => Some(Cause::TooDeep),
+            16 => Some(Cause::BadImage),
+            17 => Some(Cause::BadStoreTable),
+            18 => Some(Cause::TwinName),
+            19 => Some(Cause::BadConfirmedList),
+            20 => Some(Cause::UnknownStore),
+            21 => Some(Cause::Unconfirmed),
+            22 => Some(Cause::ArchiveOnly),
+            _ => None,
+        }
     }
 
     // The refusal of this cause at a place.
@@ -134,5 +167,31 @@ impl Cause {
             Cause::Unconfirmed => "the rule says evict with nothing confirmed",
             Cause::ArchiveOnly => "the rule says evict with only write-only stores confirmed",
         }
+    }
+}
+
+// A row of the table: a number, its word and what that means to a person.
+#[derive(Clone, Copy)]
+pub struct Row {
+    pub number: u8,
+    pub word: &'static str,
+    pub meaning: &'static str,
+}
+
+// The row of a number; both texts are empty where no refusal has it. No function calls it now: it stays, since it was promised.
+pub fn row_of(number: u8) -> Row
+    ensures { IsRow (row_of number) result }
+{
+    match Cause::of_number(number) {
+        Some(cause) => Row {
+            number,
+            word: cause.word(),
+            meaning: cause.meaning(),
+        },
+        None => Row {
+            number,
+            word: "",
+            meaning: "",
+        },
     }
 }
