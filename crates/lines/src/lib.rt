@@ -5,6 +5,7 @@
 ghost use Rattle.std.specs.Prelude.{◌≡◌, ◌++◌, ◌+◌, ◌≤◌, ◌*◌, length, replicate};
 ghost use Rattle.slices.specs.Text.{bytes, WrittenAt};
 ghost use Rattle.lines.specs.Lines.{line_end, numbers_line, meaning_line, shown, shown_all, marked_line};
+ghost use Rattle.lines.specs.Inner.Numbered.{meaning_line_of};
 
 use decimal::digits::append_digits;
 use refusals::Cause;
@@ -33,6 +34,18 @@ pub fn append_meaning(text: &mut [u8], at: usize, cause: Cause) -> usize
     let colon_end = append(text, word_end, b": ");
     let meaning_end = append(text, colon_end, meaning.as_bytes());
     append(text, meaning_end, b"\n")
+}
+
+// The same of a refusal's number; a number that no refusal has gives `: ` and a line end.
+// No function calls it now: it stays, since it was promised.
+pub fn append_meaning_of(text: &mut [u8], at: usize, number: u8) -> usize
+    requires { at + 85 ≤ length text.old }
+    ensures { WrittenAt text.old text.new at result (meaning_line_of number) }
+{
+    match Cause::of_number(number) {
+        Some(cause) => append_meaning(text, at, cause),
+        None => append(text, at, b": \n"),
+    }
 }
 
 // A byte as it is shown: a tab as a blank, and any other byte that does not print as a question mark.

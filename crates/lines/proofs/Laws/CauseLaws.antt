@@ -1,8 +1,16 @@
--- A refusal's word and its meaning are short. Assumes nothing.
-use Prim.Native.Nat.{◌≤◌}
+-- A refusal's word and its meaning are short, and the line of a number is its cause's. Assumes nothing.
+use mathlib.Core.Path.{◌≡◌, refl}
+use mathlib.Core.List.{◌++◌}
+use Prim.Native.Nat.{ℕ, ◌≤◌}
 use native.Mathlib.Omega.{arith}
 use lib.ListN.{length}
-use Rattle.refusals.specs.Refusals.{word, meaning}
+use Rattle.std.specs.Prelude.{None}
+use Rattle.slices.specs.Text.{bytes}
+use Rattle.refusals.specs.Refusals.{number, word, meaning}
+use Rattle.refusals.specs.Inner.Rows.{cause_of}
+use Rattle.refusals.proofs.Laws.RowLaws.{cause_of_number, row_of_cause, row_of_none}
+use Rattle.lines.specs.Lines.{line_end, meaning_line}
+use Rattle.lines.specs.Inner.Numbered.{meaning_line_of}
 use Rattle.refusals.specs.declared.Cause.{Cause}
 use Rattle.refusals.specs.declared.Cause.TheVariants.{ShortBuffer, LongText, ForeignByte, HalfSign, OpenQuote, StrayCharacter, NoExpression, BracketExpected, TrailingToken, UnknownFunction, MissingArgument, BadCount, BadDuration, EmptyList, TooDeep, BadImage, BadStoreTable, TwinName, BadConfirmedList, UnknownStore, Unconfirmed, ArchiveOnly}
 
@@ -53,3 +61,9 @@ meaning_short BadConfirmedList = omega arith
 meaning_short UnknownStore = omega arith
 meaning_short Unconfirmed = omega arith
 meaning_short ArchiveOnly = omega arith
+
+pub line_of_number : (c : Cause) → meaning_line_of (number c) ≡ meaning_line c
+line_of_number c = rw (← row_of_cause (number c) c (cause_of_number c)) refl
+
+pub line_of_none : (n : ℕ) → cause_of n ≡ None → meaning_line_of n ≡ bytes ": " ++ line_end
+line_of_none n e = rw (← row_of_none n e) refl
