@@ -22,6 +22,15 @@ pub enum Class {
     Stray,
 }
 
+impl Class {
+    // The class's number, in the order above. No other crate calls it now: it stays, since it was promised.
+    pub fn number(self) -> u8
+        ensures { result ≡ class_number self }
+    {
+        self as u8
+    }
+}
+
 // One letter for each class, so that the table has eight rows of 32.
 const B: Class = Class::Blank;
 
@@ -75,4 +84,12 @@ pub fn class_end(text: &[u8], at: usize, class: Class) -> usize
     ensures { result ≡ run_end (of_class (class_number class)) text.now at }
 {
     slices::run_end(text, at, |b| class_of(b) == class)
+}
+
+// Where the run of bytes whose class has this number ends: at once where no class has it.
+// No function calls it now: it stays, since it was promised.
+pub fn class_end_of(text: &[u8], at: usize, number: u8) -> usize
+    ensures { result ≡ run_end (of_class number) text.now at }
+{
+    slices::run_end(text, at, |byte| class_of(byte).number() == number)
 }

@@ -1,14 +1,14 @@
 -- The law of the table: where it has no faults, each entry is the class of its place. And what a looked-up class says of a byte.
 -- Assumes nothing.
-use mathlib.Core.Path.{◌≡◌, refl}
+use mathlib.Core.Path.{◌≡◌, refl, ◌∙◌}
 use mathlib.Core.Bool.{Bool, true, false, cond}
-use mathlib.Core.List.{List}
+use mathlib.Core.List.{List, map}
 use mathlib.Core.Logic.{⊎_elim}
 use Prim.Native.Nat.{ℕ, zero, suc, ◌<◌}
 use native.Mathlib.Nat.{not-suc-le-zero, le_of_suc-le-suc, eq-or-lt_of_le}
 use native.Mathlib.Omega.{arith}
 use lib.Dec.{T, eqb, eqb→eq}
-use lib.ListN.{get_or}
+use lib.ListN.{get_or, get_or-map}
 use Rattle.ascii.proofs.Laws.TestLaws.{is_so}
 use Rattle.classes.specs.Class.{class_of, of_class}
 use Rattle.classes.specs.Inner.ClassNumber.{class_number}
@@ -36,6 +36,10 @@ up_to_lem l (suc n) e k h =
 pub table_at : (l : List Class) → IsClassTable l → (b : ℕ) → b < 256 → class_number (get_or l b Blank) ≡ class_of b
 unfolding faults
 table_at l e b h = up_to_lem l 256 e b h
+
+-- the same of the table of the classes' numbers
+pub table_number_at : (l : List Class) → IsClassTable l → (b : ℕ) → b < 256 → get_or (map class_number l) b 0 ≡ class_of b
+table_number_at l e b h = get_or-map class_number l b Blank ∙ table_at l e b h
 
 module _ {x k : ℕ} (b : ℕ) (e : x ≡ class_of b) where
   pub of_class_lem : x ≡ k → of_class k b ≡ true
