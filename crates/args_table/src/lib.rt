@@ -61,12 +61,11 @@ impl Stores {
     }
 }
 
-// The stores that at most 64 arguments give.
-fn stores_of(args: &[u8]) -> Result<Stores, WrongArgument>
-    requires { length (arguments_in args.now) ≤ 64 }
-    ensures { MatchResult result (λ stores. (es : List Entry) × ((stores_in args.now ≡ Ok es) × Hold es stores)) (λ w. stores_in args.now ≡ Err w) }
+// Adds the stores that at most 64 arguments give, where there are none yet. They are lent, since an answer would be copied: some 16 KB.
+fn stores_of(args: &[u8], stores: &mut Stores) -> Result<(), WrongArgument>
+    requires { (length (arguments_in args.now) ≤ 64) × Hold [] stores.old }
+    ensures { MatchResult result (λ _. (es : List Entry) × ((stores_in args.now ≡ Ok es) × Hold es stores.new)) (λ w. stores_in args.now ≡ Err w) }
 {
-    let mut stores = Stores::new();
     for arg in Arguments(args) {
         // A match, since the proof does not close over `map_err` and `?` here: what the closure answers stays hidden at the `?`.
         let store = match given_by(arg) {
@@ -80,7 +79,7 @@ fn stores_of(args: &[u8]) -> Result<Stores, WrongArgument>
         };
         stores.push(store);
     }
-    Ok(stores)
+    Ok(())
 }
 
 // Makes the table of the stores that the arguments give, at most 64 of them.
@@ -88,6 +87,7 @@ pub fn table_of(args: &[u8], table: &mut [u8]) -> Result<usize, WrongArgument>
     requires { (length (arguments_in args.now) ≤ 64) × (16_452 ≤ length table.old) }
     ensures { MatchResult result (λ n. TableAt (stores_in args.now) table.new n) (λ w. stores_in args.now ≡ Err w) }
 {
-    let stores = stores_of(args)?;
+    let mut stores = Stores::new();
+    stores_of(args, &mut stores)?;
     Ok(stores.write(table))
 }

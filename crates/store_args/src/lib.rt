@@ -1,10 +1,10 @@
 // Stores given as arguments: a name, a colon and a mode.
 #![tactic(auto)]
 
-ghost use Rattle.std.specs.Prelude.{◌≡◌, [], length, MatchOption};
+ghost use Rattle.std.specs.Prelude.{◌≡◌, ◌≤◌, [], length, MatchOption};
 ghost use Rattle.std.specs.Iterator.{YieldsFirstRef, item_count};
 ghost use Rattle.store_args.specs.Arguments.{fault_text, named, mode_tested, given_by, arguments_in};
-ghost use Rattle.store_args.specs.Inner.Filling.{given, FirstOf};
+ghost use Rattle.store_args.specs.Inner.Filling.{given, next_arg, FirstOf};
 
 use ascii::eq;
 use slices::{ascii_from, mark_at};
@@ -96,6 +96,18 @@ pub fn given_by(arg: &[u8]) -> Result<Store<'_>, Fault>
         return Err(Fault::NoColon);
     };
     mode_tested(&arg[colon + 1..], &arg[..colon])
+}
+
+// Where the next argument begins, or the end. No function calls it now: it stays, since it was promised.
+pub fn next_arg(args: &[u8], at: usize) -> usize
+    requires { at ≤ length args.now }
+    ensures { result ≡ next_arg args.now at }
+{
+    let end = mark_at(args, at, 0);
+    if end < args.len() {
+        return end + 1;
+    }
+    end
 }
 
 // The first argument and the arguments after it, without the 0 between them; none where there are no arguments.

@@ -88,12 +88,16 @@ module _ {args : List ℕ} {left ws : List (List ℕ)} {w : List ℕ} {s : Store
   unfolding stores_from
   fill_bad q = f.rest ∙ rw (e, q, add-one)
 
+  -- there is room for a store more, whatever the argument is
+  pub room_left : length (arguments_in args) ≤ 64 → (s.count < 64) × (s.end + 255 ≤ 16_320)
+  room_left l = let more = ap length e in omega (arith, f.few, f.short)
+
   module _ (g : Store) (q : given_by w ≡ Ok (entry g)) where
     pub fill_room : length (arguments_in args) ≤ 64 → Room s (length g.name.now)
     fill_room l =
+        let r = room_left l in
         let n = (given_fits w (entry g) q).short in
-        let more = ap length e in
-        record { few = omega (arith, f.few); short = n; names = omega (arith, f.few, f.short, n) }
+        record { few = r.0; short = n; names = omega arith }
 
     pub fill_on : {t : Stores} → ((es : List Entry) → Hold es s → Hold (es ++ (entry g ∷ [])) t) → Filling args ws t
     unfolding stores_from
@@ -119,12 +123,12 @@ unfolding table_of
 parts {es} h = rw (h.modes, h.lengths, h.names, h.many, h.ends, length_joined, append_assoc (modes es) (lengths es) (joined es))
 
 -- the parts follow one another
-pub written_parts : (s : Stores) (t : List ℕ) {m l n : ℕ} {t₁ t₂ t₃ t₄ t₅ : List ℕ} → 4 ≤ length t →
+pub written_parts : (s : Stores) (t : List ℕ) {m l n : ℕ} {t₁ t₂ t₃ t₄ t₅ : List ℕ} →
     t₁ ≡ written t count_start (le_bytes 2 s.count) → t₂ ≡ written t₁ total_start (le_bytes 2 s.end) →
     WrittenAt t₂ t₃ modes_start m (take s.count s.modes) → WrittenAt t₃ t₄ m l (take s.count s.lengths) →
     WrittenAt t₄ t₅ l n (take s.end s.names) → n ≤ length t₅ → Written s t₅ n
 unfolding le_bytes
-written_parts s t {t₁} {t₂} room e₁ e₂ p₃ p₄ p₅ h =
+written_parts s t {t₁} {t₂} e₁ e₂ p₃ p₄ p₅ h =
     let p₁ : WrittenAt t t₁ count_start total_start (le_bytes 2 s.count) = record { ends = refl; text = e₁ } in
     let p₂ : WrittenAt t₁ t₂ total_start modes_start (le_bytes 2 s.end) = record { ends = refl; text = e₂ } in
     let z : count_start ≤ length t = omega arith in

@@ -49,4 +49,5 @@ shape_of-page c = named_length c.loop-place.invariant.1 c.args.stores.in_bounds 
 pub returns : goal.returns
 returns c =
     let i = c.loop-place.invariant in
-    named_end i.1 c.args.stores.in_bounds c.requires (rw i.0 at c.in-None.ensures.steps.1.0)
+    let last = rw i.0 at c.in-None.ensures.steps.1.0 in
+    named_end i.1 c.args.stores.in_bounds c.requires (omega (arith, last))

@@ -10,6 +10,11 @@ use Rattle.nodes.specs.Inner.Parses.{Holds, pushed}
 use Rattle.nodes.specs.declared.Nodes.{Nodes}
 
 -- ---- the first elements of a list
+cut : (a b T : List ℕ) (n m : ℕ) → take m a ≡ take n b ++ T → m ≡ n + length T → n ≤ length b → take n a ≡ take n b
+cut a b T n m e h fits =
+    let le : n ≤ m = omega arith in
+    sym (take-take n m a le) ∙ ap (take n) e ∙ take_at (take n b) T n (length-take-le n b fits)
+
 join : (a b c T U : List ℕ) (n m l : ℕ) → take m a ≡ take n b ++ T → take l c ≡ take m a ++ U → take l c ≡ take n b ++ (T ++ U)
 join a b c T U n m l e h = h ∙ ap (λ (x : List ℕ). x ++ U) e ∙ append_assoc (take n b) T U
 
@@ -69,6 +74,27 @@ module _ {N : ℕ} {b a : Nodes N} {T A W : List ℕ} (h : Holds b a T A W) wher
     more_tags = omega (arith, h.more_tags, length-append T (x ∷ []));
     more_args = omega (arith, h.more_args, length-append A (y ∷ []));
     more_names = h.more_names;
+  }
+
+  -- what was there before is still there
+  pub front : b.n ≤ length b.tags → b.n ≤ length b.args → b.m ≤ length b.names →
+      (take b.n a.tags ≡ take b.n b.tags) × (take b.n a.args ≡ take b.n b.args) × (take b.m a.names ≡ take b.m b.names)
+  front lt la lw = (
+    cut a.tags b.tags T b.n a.n h.tags h.more_tags lt,
+    cut a.args b.args A b.n a.n h.args h.more_args la,
+    cut a.names b.names W b.m a.m h.names h.more_names lw,
+  )
+
+  -- and the same after others, as many, that begin the same way
+  pub rebased : {b' : Nodes N} → b.n ≡ b'.n → b.m ≡ b'.m →
+      (take b.n b.tags ≡ take b.n b'.tags) × (take b.n b.args ≡ take b.n b'.args) × (take b.m b.names ≡ take b.m b'.names) → Holds b' a T A W
+  rebased n m q = record {
+    tags = h.tags ∙ rw (q.0, n);
+    args = h.args ∙ rw (q.1, n);
+    names = h.names ∙ rw (q.2, m);
+    more_tags = rw (← n) h.more_tags;
+    more_args = rw (← n) h.more_args;
+    more_names = rw (← m) h.more_names;
   }
 
 pub holds_none : {N : ℕ} {b : Nodes N} → Holds b b [] [] []

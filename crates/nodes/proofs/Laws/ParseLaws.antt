@@ -4,7 +4,7 @@ use mathlib.Core.Path.{◌≡◌, refl, sym, ap, ◌∙◌}
 use mathlib.Core.List.{List, [], ◌∷◌, ◌++◌}
 use Prim.Native.Nat.{ℕ, zero, suc, ◌+◌, ◌-◌, ◌*◌, ◌≤◌, ◌<◌}
 use native.Mathlib.Omega.{arith}
-use lib.ListN.{length, set, length-append, length-set}
+use lib.ListN.{length, take, set, length-append, length-set}
 use Rattle.std.specs.Prelude.{Result, Ok, Err}
 use Rattle.std.specs.Result.{IsErrAnd}
 use Rattle.refusals.specs.declared.Refusal.{Refusal}
@@ -20,7 +20,7 @@ use Rattle.classes.specs.Class.{ampersand, bar, comma, close_bracket}
 use Rattle.grammar.specs.Inner.Starts.{left}
 use Rattle.nodes.specs.Inner.Parses.{Long, Appended, ParsedRule, ParseAnswer, joined, without_root}
 use Rattle.nodes.specs.declared.Nodes.{Nodes}
-use Rattle.nodes.proofs.Laws.ArrayLaws.{holds_as, holds_join, holds_push, holds_none}
+use Rattle.nodes.proofs.Laws.ArrayLaws.{holds_as, holds_join, holds_push, holds_none, rebased}
 use Rattle.nodes.proofs.Laws.ChainLaws.{Chains, by_all, by_any, AppendedAll, chained, root_bounds}
 
 -- a refusal that was passed on
@@ -28,6 +28,22 @@ pub passed_on : {G : ℕ → ParseResult} {need : ℕ} (s : List ℕ) (at : ℕ)
     IsErrAnd r (λ (y : Refusal). y ≡ x) → ((f : ℕ) → need ≤ f → G f ≡ bad x) → ParseAnswer G need s at b a r
 passed_on s at b a (Ok e) h not = absurd h
 passed_on s at b a (Err y) h not = λ f le. not f le ∙ ap bad (sym h)
+
+-- the same after other nodes, as many, that begin the same way
+pub rebase : {G : ℕ → ParseResult} {need : ℕ} {s : List ℕ} {at N : ℕ} {b a b' : Nodes N} {e : ℕ} → b'.n ≡ b.n → b'.m ≡ b.m →
+    (take b.n b'.tags ≡ take b.n b.tags) × (take b.n b'.args ≡ take b.n b.args) × (take b.m b'.names ≡ take b.m b.names) →
+    ParsedRule G need s at b' a e → ParsedRule G need s at b a e
+rebase n m q r = record {
+  tree = r.tree;
+  says = r.says;
+  on = r.on;
+  within = r.within;
+  fewer = r.fewer;
+  some = rw (← n) r.some;
+  room = rw (← n) r.room;
+  width = rw (← m) r.width;
+  holds = holds_as (rebased r.holds n m (rw (n, m) q)) refl (ap (args r.tree) m) refl;
+}
 
 -- the arrays that a combinator's node was appended to have room for it
 joined_long : (j : Join) (first : ℕ) {N : ℕ} (c : Nodes N) → c.n < N → Long (joined j first c) → (c.n < length c.tags) × (c.n < length c.args)
@@ -108,7 +124,7 @@ module _ {s : List ℕ} {G : ℕ → ParseResult} {More : ℕ → ParseResult �
       done (suc g) h = L.stops g l.tree e not
 
   -- a sign follows, and the text continues at y
-  module _ {e y : ℕ} (is : after sign (tokens_from s e) ≡ rest (tokens_from s y)) (ahead : (e < y) × (left s y < left s e)) where
+  module _ {e y : ℕ} (is : after sign (tokens_from s e) ≡ rest (tokens_from s y)) (fewer : left s y < left s e) where
     -- the operand after it was refused
     pub right_refused : {need need₂ N : ℕ} {b a : Nodes N} {x : Refusal} →
         Sofar G More need s at b a e → need₂ ≤ 3 * left s y + 2 → ((f : ℕ) → need₂ ≤ f → Op f y ≡ bad x) → (f : ℕ) → need ≤ f → G f ≡ bad x
@@ -121,11 +137,11 @@ module _ {s : List ℕ} {G : ℕ → ParseResult} {More : ℕ → ParseResult �
             L.turns (suc g) l.tree e y is ∙ ap (λ (o : ParseResult). More (suc g) (onto j l.tree o)) (not (suc g) (omega arith)) ∙ L.fails g x
 
     -- the operand after it was read, and the chain's node appended
-    pub turn : {need need₂ N : ℕ} {b a k c d : Nodes N} {e₂ : ℕ} → Sofar G More need s at b a e
+    pub turn : {need need₂ N : ℕ} {b a k c d : Nodes N} {e₂ : ℕ} → e < y → Sofar G More need s at b a e
         → k ≡ without_root (join_kind j) a → need₂ ≤ 3 * left s y + 2
         → ParsedRule (λ (f : ℕ). Op f y) need₂ s y k c e₂
         → c.n < N → Long k → Long d → d ≡ joined j b.n c → Sofar G More need s at b d e₂
-    turn {need} {need₂} {N} {b} {a} {k} {c} {d} {e₂} l q enough r room lk ld w =
+    turn {need} {need₂} {N} {b} {a} {k} {c} {d} {e₂} on l q enough r room lk ld w =
         let keeps = root_bounds (join_kind j) q (omega (arith, l.some)) in
         let la : Long a = rw q at lk in
         let lc : (c.n < length c.tags) × (c.n < length c.args) = joined_long j b.n c room (rw w at ld) in

@@ -28,9 +28,9 @@ module _ {s a b : List ℕ} {at k end : ℕ} (h : Named s a b at k end) (t : Tab
   pub named_length : length b ≡ length a
   named_length = written_at_length (omega (arith, simp length-append at (ap length h.rest), lines_short s t)) h.put
 
-  pub named_end : k ≡ count_in s → WrittenAt a b at end (confirmed_lines (write_only_names (entries_in s)))
+  pub named_end : count_in s ≤ k → WrittenAt a b at end (confirmed_lines (write_only_names (entries_in s)))
   unfolding confirmed_lines write_only_names
-  named_end q =
+  named_end le =
       let l : length (entries_in s) ≤ k = omega (arith, length_entries s t) in
       let e = rw (drop_of_length-le (entries_in s) l, append-nil) at h.rest in
       rw e at h.put

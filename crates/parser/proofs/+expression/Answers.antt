@@ -23,13 +23,13 @@ pub parse_and-returns-in_err-end-2 : goal.parse_and-returns-in_err-end-2
 parse_and-returns-in_err-end-2 g t c =
     let i = found _ _ ampersand c.next_operand.ensures.next c.in-Some.is in
     passed_on _ _ _ _ c.from_residual-in_err-end-2.result c.from_residual-in_err-end-2.ensures.1
-    (right_refused (and_level _ _ _) i.sign (omega (arith, i.bounds)) c.loop-next.invariant (omega arith) c.in_err-end-2.ensures)
+    (right_refused (and_level _ _ _) i.sign i.bounds.2 c.loop-next.invariant (omega arith) c.in_err-end-2.ensures)
 
 pub parse_and-loop-next-preserved : goal.parse_and-loop-next-preserved
 parse_and-loop-next-preserved g t c =
     let next = c.next_operand.ensures in
     let i = found _ _ ampersand next.next c.in-Some.is in
-    turn (and_level _ _ _) i.sign (omega (arith, i.bounds)) c.loop-next.invariant (root_dropped _ _ ampersand next.next _ _ next.nodes c.in-Some.is)
+    turn (and_level _ _ _) i.sign i.bounds.2 i.bounds.0 c.loop-next.invariant (root_dropped _ _ ampersand next.next _ _ next.nodes c.in-Some.is)
     (omega arith) c.in_ok-end-2.ensures (omega (arith, c.in_ok-end-2.ensures)) c.in-Some.ensures.long c.push_combinator.ensures.long c.push_combinator.ensures.nodes
 
 pub parse_and-returns : goal.parse_and-returns
@@ -49,13 +49,13 @@ pub parse_or-returns-in_err-end-2 : goal.parse_or-returns-in_err-end-2
 parse_or-returns-in_err-end-2 g t c =
     let i = found _ _ bar c.next_operand.ensures.next c.in-Some.is in
     passed_on _ _ _ _ c.from_residual-in_err-end-2.result c.from_residual-in_err-end-2.ensures.1
-    (right_refused (or_level _ _ _) i.sign (omega (arith, i.bounds)) c.loop-next.invariant (omega arith) c.in_err-end-2.ensures)
+    (right_refused (or_level _ _ _) i.sign i.bounds.2 c.loop-next.invariant (omega arith) c.in_err-end-2.ensures)
 
 pub parse_or-loop-next-preserved : goal.parse_or-loop-next-preserved
 parse_or-loop-next-preserved g t c =
     let next = c.next_operand.ensures in
     let i = found _ _ bar next.next c.in-Some.is in
-    turn (or_level _ _ _) i.sign (omega (arith, i.bounds)) c.loop-next.invariant (root_dropped _ _ bar next.next _ _ next.nodes c.in-Some.is)
+    turn (or_level _ _ _) i.sign i.bounds.2 i.bounds.0 c.loop-next.invariant (root_dropped _ _ bar next.next _ _ next.nodes c.in-Some.is)
     (omega arith) c.in_ok-end-2.ensures (omega (arith, c.in_ok-end-2.ensures)) c.in-Some.ensures.long c.push_combinator.ensures.long c.push_combinator.ensures.nodes
 
 pub parse_or-returns : goal.parse_or-returns

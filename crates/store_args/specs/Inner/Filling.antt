@@ -1,11 +1,16 @@
 -- What the functions that make a table of arguments answer. Assumes nothing.
-use Rattle.std.specs.Prelude.{ℕ, ◌≤◌, ◌<◌, ◌≡◌, List, ◌∷◌, Result, Ok, Err, length, take}
+use Rattle.std.specs.Prelude.{ℕ, suc, min, ◌≤◌, ◌<◌, ◌≡◌, List, ◌∷◌, Result, Ok, Err, length, take}
+use Rattle.slices.specs.Text.{run_end, other}
 use Rattle.store_table.specs.Stores.{Entry}
 use Rattle.store_table.specs.TableBytes.{table_of}
 use Rattle.store_args.specs.Arguments.{arguments_in}
 use Rattle.store_args.specs.declared.Fault.{Fault}
 use Rattle.store_args.specs.declared.WrongArgument.{WrongArgument}
 use Rattle.store_args.specs.declared.Store.{Store}
+
+-- where the argument after that at a position begins, or the end
+abbrev pub next_arg : List ℕ → ℕ → ℕ
+next_arg s at = min (suc (run_end (other 0) s at)) (length s)
 
 -- the entry of a store that is given
 abbrev pub entry : Store → Entry

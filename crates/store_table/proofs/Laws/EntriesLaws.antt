@@ -17,6 +17,9 @@ pub record ReadySoFar (es : List Entry) (marks : List Bool) (k ready : ℕ) : Ty
   pub few : ready ≤ k
   pub rest : (names : List (List ℕ)) → Marked es names marks → ready + ready_count (drop k es) names ≡ ready_count es names
 
+pub ready_start : (es : List Entry) (marks : List Bool) → ReadySoFar es marks 0 0
+ready_start es marks = record { few = omega arith; rest = λ names m. omega arith }
+
 module _ {es : List Entry} {marks : List Bool} {k ready : ℕ} (h : ReadySoFar es marks k ready) where
   pub ready_end : length es ≤ k → (names : List (List ℕ)) → Marked es names marks → ready ≡ ready_count es names
   unfolding ready_count

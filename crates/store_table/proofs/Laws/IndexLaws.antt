@@ -24,6 +24,13 @@ module _ {w : List ℕ} {es : List Entry} {first : ℕ} where
         there = λ k e. absurd (cc);
       }
 
+  pub finds_at : {k : ℕ} {x : Entry} → k < first → EntryAt es k x → same_name w x.name ≡ true → Finds w es first (Some k)
+  finds_at {k} {x} lt e p =
+      record {
+        missing = λ z. absurd (cc);
+        there = λ j z. let i : j ≡ k = cc in rw i (lt, (x, (e, p)));
+      }
+
   -- it finds something exactly where one of the entries has the name
   pub finds_whether : (r : Option ℕ) → Finds w es first r → is_some r ≡ has w (all_names (take first es))
   finds_whether None h = sym (h.missing refl)

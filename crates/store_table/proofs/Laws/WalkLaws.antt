@@ -1,5 +1,5 @@
 -- A walk over the entries of a table or a list, by their modes, their lengths and where the next name begins. Assumes nothing.
-use mathlib.Core.Path.{◌≡◌, refl, sym, ◌∙◌}
+use mathlib.Core.Path.{◌≡◌, refl, sym, ap, ◌∙◌}
 use mathlib.Core.List.{List, [], ◌∷◌}
 use Prim.Native.Nat.{ℕ, zero, suc, ◌+◌, ◌-◌, ◌*◌, ◌≤◌, ◌<◌}
 use native.Mathlib.Numerals.{add-one}
@@ -112,41 +112,62 @@ lengths_count s h = length-take-le _ _ (simp length-drop (omega arith))
 pub name_start_next : (s : List ℕ) (k : ℕ) → TableInBounds s → k < count_in s → name_start_at s k + length_at s k ≡ name_start_at s (k + 1)
 name_start_next s k h lt = omega (arith, rw (← add-one) at (sum_next (lengths_in s) k (omega (arith, lengths_count s h))))
 
+pub standing_start : (s : List ℕ) (count : ℕ) → TableInBounds s → count ≡ count_in s → EntryWalk s count 0 (names_start count)
+unfolding entries_in
+standing_start s count h e = record { in_bounds = h; counted = e; fills = omega (arith, h.names); rest = rw e }
+
+-- entry k, whose name has the bytes from `at` up to `at + len`
+abbrev pub entry_at : List ℕ → ℕ → ℕ → ℕ → Entry
+entry_at s k at len = record { mode = get_or (modes_in s) k 0; name = take (at + len - at) (drop at s) }
+
+-- one entry more, of this length
+module _ {s : List ℕ} {count k at : ℕ} (h : EntryWalk s count k at) (lt : k < count) {len : ℕ} (e : len ≡ length_at s k) where
+  mode_on : drop k (modes_in s) ≡ get_or (modes_in s) k 0 ∷ drop (k + 1) (modes_in s)
+  mode_on =
+      let n : length (modes_in s) ≡ count_in s = length-take-le _ _ (simp length-drop (omega (arith, h.in_bounds.arrays))) in
+      drop-cons (modes_in s) k 0 (omega (arith, h.counted)) ∙ rw add-one
+
+  length_on : drop k (lengths_in s) ≡ len ∷ drop (k + 1) (lengths_in s)
+  length_on = drop-cons (lengths_in s) k 0 (omega (arith, h.counted, lengths_count s h.in_bounds)) ∙ rw (e, add-one)
+
+  rest_on : drop k (entries_in s) ≡ entry_at s k at len ∷ entries_from (drop (k + 1) (modes_in s)) (drop (k + 1) (lengths_in s)) (drop (at + len) s)
+  unfolding entries_from
+  rest_on =
+      let p : at + len - at ≡ len = omega arith in
+      h.rest ∙ rw (p, mode_on, length_on, drop-drop)
+
+  pub standing_within : at + len + sum (drop (k + 1) (lengths_in s)) ≤ length s
+  unfolding sum
+  standing_within = let z = rw length_on at h.fills in omega (arith, z)
+
+  pub standing_next : EntryWalk s count (k + 1) (at + len)
+  standing_next =
+      record {
+        in_bounds = h.in_bounds;
+        counted = h.counted;
+        fills = standing_within;
+        rest = sym (drop-drop 1 k (entries_in s)) ∙ ap (drop 1) rest_on;
+      }
+
+  pub standing_here : drop k (entries_in s) ≡ entry_at s k at len ∷ drop (k + 1) (entries_in s)
+  standing_here = rest_on ∙ rw standing_next.rest
+
 -- one entry more, k, of a table or a list
 module _ {s : List ℕ} {k start : ℕ} (h : EntryWalk s (count_in s) k start) (lt : k < count_in s) where
   pub name_within : start + length_at s k ≤ length s
-  unfolding sum
-  name_within =
-      let z = rw (drop-cons (lengths_in s) k 0 (omega (arith, lengths_count s h.in_bounds))) at h.fills in
-      omega (arith, z)
-
-  -- entry k, whose name has as many bytes as its length says from there on
-  abbrev entry_at : Entry
-  entry_at = record { mode = get_or (modes_in s) k 0; name = take (length_at s k) (drop start s) }
-
-  entry_first : (ys : List Entry) × (drop k (entries_in s) ≡ entry_at ∷ ys)
-  unfolding entries_from
-  entry_first = (
-    entries_from (drop (suc k) (modes_in s)) (drop (suc k) (lengths_in s)) (drop (length_at s k) (drop start s)),
-    h.rest
-        ∙ rw (
-          drop-cons (modes_in s) k 0 (omega (arith, h.in_bounds.arrays, length-take-le (count_in s) (drop modes_start s) (simp length-drop (omega arith)))),
-          drop-cons (lengths_in s) k 0 (omega (arith, lengths_count s h.in_bounds)),
-        ),
-  )
+  name_within = omega (arith, standing_within h lt refl)
 
   -- what the bytes from there on say
   pub name_here : {len : ℕ} → len ≡ length_at s k → len < 256 → NameAt s k start (take (start + len - start) (drop start s))
   name_here {len} q few =
       let (x, e) = entry_there s k h.in_bounds lt in
-      let (ys, f) = entry_first in
-      let z : start + len - start ≡ length_at s k = omega arith in
+      let f = standing_here h lt q in
       let fits : start + len ≤ length s = omega (arith, name_within) in
       let n : length (take (start + len - start) (drop start s)) ≡ len = length-take-le _ _ (simp length-drop (omega arith)) ∙ omega arith in
       record {
         entry = x;
         here = e;
-        named = let w : x ≡ entry_at = cc in rw (w, z);
+        named = let w : x ≡ entry_at s k start len = cc in rw w;
         long = omega arith;
         within = omega arith;
         small = omega arith;
