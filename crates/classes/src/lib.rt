@@ -79,11 +79,27 @@ pub fn class_of(b: u8) -> Class
     table()[usize::from(b)]
 }
 
-// Where the run of bytes of this class that begins at a position of the text ends.
+// Whether a byte is of this class.
+#[tactic(auto, unfolding(crate::specs::Class::of_class))]
+fn is_of(b: u8, class: Class) -> bool
+    ensures { result ≡ of_class (class_number class) b }
+{
+    class_of(b) == class
+}
+
+// Where the run of bytes of this class that begins at a position of the text ends. The first byte is looked at before the loop, which
+// then keeps the table's address: most runs of blanks are empty, and long ones took a quarter more time.
+#[tactic(auto, using(slices::proofs::Laws::TextLaws::end_out, slices::proofs::Laws::TextLaws::end_stop))]
 pub fn class_end(text: &[u8], at: usize, class: Class) -> usize
     ensures { result ≡ run_end (of_class (class_number class)) text.now at }
 {
-    slices::run_end(text, at, |b| class_of(b) == class)
+    if text.len() <= at {
+        return at;
+    }
+    if !is_of(text[at], class) {
+        return at;
+    }
+    slices::run_end(text, at, |b| is_of(b, class))
 }
 
 // Where the run of bytes whose class has this number ends: at once where no class has it.

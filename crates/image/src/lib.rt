@@ -87,7 +87,9 @@ fn write_numbers<const K: usize, N: Copy + Into<u64>>(s: &mut [u8], at: usize, n
 }
 
 // Writes the image of nodes and name bytes at the front of a buffer, and answers its length. The tags and the arguments are two
-// slices, since an image has all tags before all arguments.
+// slices, since an image has all tags before all arguments. Never inlined: where the arrays are seen to lie apart, its loops become
+// calls of C's `memcpy`, and C is asked for no more than `memset`.
+#[inline(never)]
 pub fn write_image(image: &mut [u8], tags: &[u32], args: &[u64], names: &[u8]) -> usize
     requires { (length args.now ≡ length tags.now) × (names_start (length tags.now) + length names.now ≤ length image.old) }
     ensures { (result ≡ names_start (length tags.now) + length names.now) × (image.new ≡ written image.old 0 (image_of (length tags.now) tags.now args.now names.now)) }

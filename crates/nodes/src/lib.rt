@@ -10,6 +10,7 @@ ghost use Rattle.nodes.specs.Inner.Parses.{Long, NameRoom, JoinRoom, Written, pu
 
 use grammar::{Combinator, Test};
 use image::{name_arg, tag_kind, tag_of};
+use slices::append;
 
 // The first n nodes, each a tag and an argument, and the first m bytes of their names, in arrays of a fixed size, since the library
 // has no heap. Tags and arguments have an array each, as in the image, to which each is written as it is.
@@ -83,9 +84,8 @@ impl<const N: usize> Nodes<N> {
     {
         let m = self.m;
         let size = end - start;
-        // Parts of an array of const length are lent by way of a slice of it.
-        let names = &mut self.names[..];
-        names[m..m + size].copy_from_slice(&text[start..end]);
+        // The library's `copy_from_slice` would be a call of C's `memmove`, and C is asked for no more than `memset`.
+        append(&mut self.names, m, &text[start..end]);
         self.m = m + size;
         self.push(image::NAMED, 1, name_arg(m, size));
     }
