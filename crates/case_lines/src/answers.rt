@@ -32,7 +32,7 @@ pub fn print_decision<W: Write>(output: &mut W, answer: u64) -> Result<()> {
     }
 }
 
-// Bytes in hex, of which there are no more than fit a piece.
+// Bytes in hex, no more of them than a piece has.
 fn print_piece<W: Write>(output: &mut W, bytes: &[u8]) -> Result<()>
     requires { length bytes.now ≤ 2048 }
 {

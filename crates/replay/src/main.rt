@@ -9,7 +9,6 @@ use case_lines::case::case_of;
 use case_lines::fields::SPACE;
 use case_lines::input::{next_case, start};
 use run::run;
-use std::cmp::min;
 use std::io::{BufWriter, Read, Result, Write};
 
 // Runs the case that a line gives.
@@ -35,7 +34,7 @@ fn run_all<R: Read, W: Write>(
         if now.size == 0 {
             return Ok(cases);
         }
-        run_line(output, &line[..min(now.size, line.len())], space)?;
+        run_line(output, &line[..now.size], space)?;
     }
     Ok(u64::MAX)
 }
