@@ -32,8 +32,8 @@ pub fn print_decision<W: Write>(output: &mut W, answer: u64) -> Result<()> {
     }
 }
 
-// Bytes in hex, no more of them than a piece has.
-fn print_piece<W: Write>(output: &mut W, bytes: &[u8]) -> Result<()>
+// Writes bytes in hex, no more of them than a piece has.
+fn print_digits<W: Write>(output: &mut W, bytes: &[u8]) -> Result<()>
     requires { length bytes.now ≤ 2048 }
 {
     let mut text = [0u8; 2 * PIECE];
@@ -49,7 +49,7 @@ pub fn print_bytes<W: Write>(output: &mut W, bytes: &[u8]) -> Result<()> {
         output.write_all(b"-")?;
     }
     for piece in bytes.chunks(PIECE) {
-        print_piece(output, piece)?;
+        print_digits(output, piece)?;
     }
     output.write_all(b"\n")
 }

@@ -9,7 +9,7 @@ use crate::fault::Fault;
 use decimal::count::parse_count;
 
 // More bytes than any case has: those of the buffer for a line, and of the space for what the fields give.
-pub const SPACE: usize = 65_536;
+pub const SPACE: usize = 65536;
 
 // The longest buffer that is lent. The longest text of a rule has 90,026 bytes.
 pub const ROOM: usize = 131_072;
