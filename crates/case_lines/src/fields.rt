@@ -7,22 +7,31 @@ ghost use Rattle.case_lines.specs.Inner.Fields.{number_of, room_of};
 
 use crate::fault::Fault;
 use decimal::count::parse_count;
-use std::alloc::Global;
+
+// More bytes than any case has: those of the buffer for a line, and of the space for what the fields give.
+pub const SPACE: usize = 65536;
 
 // The longest buffer that is lent. The longest text of a rule has 90,026 bytes.
 pub const ROOM: usize = 131_072;
 
-// The bytes of a field, in hex with digits in lower case; a dash gives none.
-pub fn decoded(alloc: Global, field: &[u8]) -> Result<Vec<u8>, Fault>
-    ensures dash { length field.now ≡ 1 → IfOk result (λ given. given.items ≡ []) }
-    ensures hex { 1 < length field.now → IfOk result (λ given. decode_of field.now ≡ Ok given.items) }
+// The bytes of a field, in hex with digits in lower case; a dash gives none. They are written to the front of a space, and answered with
+// the rest of it; where it has no room for them, the field is not in the format.
+pub fn decoded<'a>(field: &[u8], space: &'a mut [u8]) -> Result<(&'a [u8], &'a mut [u8]), Fault>
+    ensures dash { length field.now ≡ 1 → IfOk result (λ given. given.0.now ≡ []) }
+    ensures hex { 1 < length field.now → IfOk result (λ given. decode_of field.now ≡ Ok given.0.now) }
     ensures lower { 1 < length field.now → IfOk result (λ given. All (λ b. is_ascii_uppercase b ≡ false) field.now) }
 {
     match field {
-        b"-" => Ok(Vec::new(alloc)),
+        b"-" => Ok((&[], space)),
         b"" => Err(Fault::Format),
         _ if field.iter().any(|b| b.is_ascii_uppercase()) => Err(Fault::Format),
-        _ => Ok(hex::decode(alloc, field)?),
+        _ => {
+            let (given, rest) = space
+                .split_at_mut_checked(field.len() / 2)
+                .ok_or(Fault::Format)?;
+            hex::decode_to_slice(field, given)?;
+            Ok((given, rest))
+        }
     }
 }
 

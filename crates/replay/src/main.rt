@@ -6,39 +6,52 @@ mod run;
 
 use case_lines::answers::print_count;
 use case_lines::case::case_of;
-use case_lines::fault::Fault;
+use case_lines::fields::SPACE;
+use case_lines::input::{next_case, start};
 use run::run;
-use std::alloc::Global;
-use std::io::{BufRead, BufReader, BufWriter, Result, Write};
+use std::io::{BufWriter, Read, Result, Write};
 
 // Runs the case that a line gives.
-fn run_line<W: Write>(output: &mut W, alloc: Global, line: &[u8]) -> Result<()> {
-    match case_of(alloc, line) {
+fn run_line<W: Write>(output: &mut W, line: &[u8], space: &mut [u8]) -> Result<()> {
+    match case_of(line, space) {
         Ok(case) => run(output, &case),
-        Err(Fault::Memory(error)) => Err(error.into()),
         Err(fault) => writeln!(output, "{fault}"),
     }
 }
 
-// Runs the cases of the input one after the other, and answers how many there are.
-fn run_all<R: BufRead + Drop, W: Write>(input: R, output: &mut W, alloc: Global) -> Result<u64> {
-    let mut cases = 0u64;
-    for line in input.split(alloc, b'\n') {
-        let line = line?;
-        if line.is_empty() || line.starts_with(b"#") {
-            continue;
+// Runs the cases of the input one after the other, and answers how many there are. Each is read to a line, by way of a chunk, and what
+// its fields give is written to a space.
+fn run_all<R: Read, W: Write>(
+    input: &mut R,
+    output: &mut W,
+    line: &mut [u8],
+    chunk: &mut [u8],
+    space: &mut [u8],
+) -> Result<u64> {
+    let mut now = start();
+    for cases in 0..u64::MAX {
+        now = next_case(input, line, chunk, now)?;
+        if now.size == 0 {
+            return Ok(cases);
         }
-        run_line(output, alloc, line.as_slice())?;
-        cases = cases.saturating_add(1);
+        run_line(output, &line[..now.size], space)?;
     }
-    Ok(cases)
+    Ok(u64::MAX)
 }
 
 // Runs the list, and prints how many cases it has.
 fn main(rt: HostRuntime) -> Result<()> {
     let mut output = BufWriter::new(rt.alloc(), rt.stdout())?;
-    let input = BufReader::new(rt.alloc(), rt.stdin())?;
-    let cases = run_all(input, &mut output, rt.alloc())?;
+    let mut line = [0u8; SPACE];
+    let mut chunk = [0u8; SPACE];
+    let mut space = [0u8; SPACE];
+    let cases = run_all(
+        &mut rt.stdin(),
+        &mut output,
+        &mut line,
+        &mut chunk,
+        &mut space,
+    )?;
     print_count(&mut output, cases)?;
     output.flush()
 }
