@@ -32,6 +32,16 @@ pub fn evaluate(nodes: NodeTable, from: usize, size: usize, says: &[u8], least: 
 {
     // No struct of `nodes`, `from` and `size`: printing asks of them where the names lie, and this does not. That `says` is long enough is
     // a clause, since it is lent for reading here, and for writing where it is made.
+    evaluate_in(nodes.bytes, nodes.count, from, size, says, least)
+}
+
+// The same for the bytes and the count of a table. It calls itself for each child, and a table passed by value would be copied into
+// each frame: 32 bytes more of stack for each level of a rule.
+fn evaluate_in(bytes: &[u8], count: usize, from: usize, size: usize, says: &[u8], least: u8) -> bool
+    requires { NodeRow bytes.now count from size × (count ≤ length says.now) }
+    ensures { OfRule bytes.now count from size (λ ρ. result ≡ evict_by (says_at says.now least) ρ from) }
+{
+    let nodes = NodeTable { bytes, count };
     let at = from + size - 1;
     let root = nodes.node(at);
     match root.kind {
@@ -45,7 +55,7 @@ pub fn evaluate(nodes: NodeTable, from: usize, size: usize, says: &[u8], least: 
                         yes += 1;
                     }
                 } else {
-                    if evaluate(nodes, child.start, child.node.size, says, least) {
+                    if evaluate_in(bytes, count, child.start, child.node.size, says, least) {
                         yes += 1;
                     }
                 }

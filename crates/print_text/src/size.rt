@@ -90,6 +90,16 @@ pub fn text_size(nodes: NodeTable, from: usize, size: usize) -> usize
     requires { ValidSubtree nodes.bytes.now nodes.count from size × (nodes.count ≤ 2048) }
     ensures { OfRule nodes.entry.bytes.now nodes.entry.count from size (λ ρ. result ≡ length (text_of ρ)) }
 {
+    text_size_in(nodes.bytes, nodes.count, from, size)
+}
+
+// The same for the bytes and the count of a table. It calls itself for each child, and a table passed by value would be copied into
+// each frame: 32 bytes more of stack for each level of a rule.
+fn text_size_in(bytes: &[u8], count: usize, from: usize, size: usize) -> usize
+    requires { ValidSubtree bytes.now count from size × (count ≤ 2048) }
+    ensures { OfRule bytes.now count from size (λ ρ. result ≡ length (text_of ρ)) }
+{
+    let nodes = NodeTable { bytes, count };
     let at = from + size - 1;
     let root = nodes.node(at);
     if is_leaf(root.kind) {
@@ -103,7 +113,7 @@ pub fn text_size(nodes: NodeTable, from: usize, size: usize) -> usize
         if is_leaf(node.kind) {
             total += leaf_size(nodes, node);
         } else {
-            total += text_size(nodes, child.start, node.size);
+            total += text_size_in(bytes, count, child.start, node.size);
         }
     }
     total

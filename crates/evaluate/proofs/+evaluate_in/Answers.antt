@@ -1,4 +1,4 @@
--- `evaluate::evaluate` meets its contract. Assumes nothing.
+-- `evaluate::evaluate_in` meets its contract. Assumes nothing.
 use mathlib.Core.Path.{◌≡◌, refl, ◌∙◌}
 use mathlib.Core.Bool.{Bool, cond}
 use Prim.Native.Nat.{ℕ, suc, ◌+◌, ◌-◌}
@@ -12,8 +12,11 @@ use Rattle.image.proofs.Laws.SiblingLaws.{children_stand}
 use Rattle.image.proofs.Laws.CellLaws.{cell_what}
 use Rattle.evaluate.specs.Inner.By.{says_at}
 use Rattle.evaluate.proofs.Laws.SubtreeLaws.{walks_start, walks_next, Last, last, last_here, last_back, Answered, moved_few, leaf_done, one_done, join_done}
-use Rattle.evaluate.proofs.+evaluate.Goals as goal
-use Rattle.evaluate.proofs.+evaluate.Goals.{In-Some, then-child-eq1+then-least-says, then-child-eq1+else-least-says, else-child-eq1+then-evaluate, else-child-eq1+else-evaluate}
+use Rattle.evaluate.proofs.+evaluate_in.Goals as goal
+use Rattle.evaluate.proofs.+evaluate_in.Goals.{In-Some, then-child-eq1+then-least-says, then-child-eq1+else-least-says, else-child-eq1+then-evaluate_in, else-child-eq1+else-evaluate_in}
+
+pub invariant_of-nodes : goal.invariant_of-nodes
+invariant_of-nodes t c = record { in_bounds = c.requires.0.long }
 
 pub overflow_sub-at : goal.overflow_sub-at
 overflow_sub-at t c = let h = c.requires.0 in omega (arith, size_pos h.here.rule, h.here.sized)
@@ -28,7 +31,7 @@ pub children-child-items-requires : goal.children-child-items-requires
 children-child-items-requires t c =
     let h = c.requires.0 in
     let d = c.node-root in (
-      ∣ children_stand h.here (λ l e. no_leaf c.args.nodes.bytes.now c.args.nodes.count d.result.kind d.result.arg
+      ∣ children_stand h.here (λ l e. no_leaf c.args.bytes.now c.args.count d.result.kind d.result.arg
           (join_kind_no_leaf _ (omega arith) (omega arith)) l (cell_what _ _ _ d.ensures ∙ e)) ∣₁,
       omega (arith, size_pos h.here.rule, h.here.sized, h.within),
     )
@@ -39,22 +42,22 @@ loop-child-init t c =
     rw (c.into_iter-child-iterator.ensures.into_iter_gives, e.0, e.1, e.2, e.3) (refl, refl, refl, omega arith, omega arith, walks_start _ _ _ _)
 
 -- the child that a turn asks, and the cell before `end`, which says its size
-the_last : (t : ℕ) (c : In-Some t) → Last (cell_at c.args.nodes.bytes.now c.args.nodes.count) c.args.from c.loop-child.child-iterator.end
+the_last : (t : ℕ) (c : In-Some t) → Last (cell_at c.args.bytes.now c.args.count) c.args.from c.loop-child.child-iterator.end
 the_last t c =
     let i = c.loop-child.invariant in
     let d = c.node-root in
     last _ _ _ _ i.5 c.requires.0.here
-    (λ l e. no_leaf c.args.nodes.bytes.now c.args.nodes.count d.result.kind d.result.arg
+    (λ l e. no_leaf c.args.bytes.now c.args.count d.result.kind d.result.arg
     (join_kind_no_leaf _ (omega arith) (omega arith)) l (cell_what _ _ _ d.ensures ∙ e)) (rw i.2 at c.in-Some.ensures.steps.3.0)
 
 the_cell : (t : ℕ) (c : In-Some t) →
-    c.in-Some.child.node.size ≡ (cell_at c.args.nodes.bytes.now c.args.nodes.count (c.loop-child.child-iterator.end - 1)).size
+    c.in-Some.child.node.size ≡ (cell_at c.args.bytes.now c.args.count (c.loop-child.child-iterator.end - 1)).size
 the_cell t c = let i = c.loop-child.invariant in cell_size _ _ _ (rw (i.0, i.1) at c.in-Some.ensures.steps.3.1)
 
-pub evaluate-requires : goal.evaluate-requires
-evaluate-requires t c =
+pub evaluate_in-requires : goal.evaluate_in-requires
+evaluate_in-requires t c =
     let h = c.requires.0 in
-    let at = (goal.at.evaluate-requires t c).In-Some in
+    let at = (goal.at.evaluate_in-requires t c).In-Some in
     let z = the_cell t at in
     let l = the_last t at in
     let b = last_back l z in
@@ -83,13 +86,13 @@ loop-child-preserved t c =
     let z = the_cell t at in
     let back = last_back (the_last t at) z in
     let q : d.start ≡ c.loop-child.child-iterator.end - d.node.size = omega (arith, steps.3.2) in
-    let answered = Answered (cell_at a.nodes.bytes.now a.nodes.count) (says_at a.says.now a.least) d.start d.node.size in
+    let answered = Answered (cell_at a.bytes.now a.count) (says_at a.says.now a.least) d.start d.node.size in
     let turn : (b : Bool) × answered b × (c.if-child-eq1.yes ≡ cond b (suc c.loop-child.yes) c.loop-child.yes) =
     elim c.if-child-eq1.branch [
       | then-child-eq1+then-least-says w ↦ (_, one_done _ _ _ _ w.if-child-eq1.true refl, rw (le-leb _ _ w.if-least-says.true) (omega arith))
       | then-child-eq1+else-least-says w ↦ (_, one_done _ _ _ _ w.if-child-eq1.true refl, rw (lt-leb _ _ w.if-least-says.false) w.yes-is)
-      | else-child-eq1+then-evaluate w ↦ (_, w.evaluate.ensures, rw w.if-evaluate.true (omega arith))
-      | else-child-eq1+else-evaluate w ↦ (_, w.evaluate.ensures, rw w.if-evaluate.false w.yes-is)
+      | else-child-eq1+then-evaluate_in w ↦ (_, w.evaluate_in.ensures, rw w.if-evaluate_in.true (omega arith))
+      | else-child-eq1+else-evaluate_in w ↦ (_, w.evaluate_in.ensures, rw w.if-evaluate_in.false w.yes-is)
     ]
     in
     let (b, ans, counted) = turn in (

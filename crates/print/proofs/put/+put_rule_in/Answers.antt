@@ -1,4 +1,4 @@
--- `print::put::put_rule` meets its contract: the walk over the children keeps what is written, and each child has fewer nodes than its
+-- `print::put::put_rule_in` meets its contract: the walk over the children keeps what is written, and each child has fewer nodes than its
 -- parent.
 use Rattle.std.proofs.Common.{◌≡◌, refl, sym, ap, subst, ◌∙◌, ℕ, suc, List, ◌+◌, ◌-◌, ◌≤◌, ◌<◌, length, length-append, arith}
 use Rattle.rules.specs.Rule.{Rule, size}
@@ -17,8 +17,8 @@ use Rattle.slices.proofs.Laws.WrittenLaws.{written_at_none, written_at_before}
 use Rattle.print_text.specs.Print.{text_of}
 use Rattle.print_text.proofs.Laws.ChildrenLaws.{walks_start, Turn, turn, walks_next, walks_done, leaf_text_lem}
 use Rattle.print_text.proofs.Laws.PrependLaws.{pieces_room, child_room, put_start}
-use Rattle.print.proofs.put.+put_rule.Goals as goal
-use Rattle.print.proofs.put.+put_rule.Goals.{In-Some, After-prepend_back-to, Joined-is_leaf-2, then-is_leaf-2, else-is_leaf-2}
+use Rattle.print.proofs.put.+put_rule_in.Goals as goal
+use Rattle.print.proofs.put.+put_rule_in.Goals.{In-Some, After-prepend_back-to, Joined-is_leaf-2, then-is_leaf-2, else-is_leaf-2}
 
 -- at entry there is a node, and the last one is within the image
 the_node : {s : List ℕ} {n from k : ℕ} → ValidSubtree s n from k → (0 < k) × (from + k ≤ n)
@@ -34,22 +34,25 @@ the_start : (t : ℕ) (c : In-Some t) → c.in-Some.child.start ≡ c.loop-child
 the_start t c = omega (arith, c.in-Some.ensures.steps.3.2)
 
 the_read : (t : ℕ) (c : In-Some t) →
-    node_of c.in-Some.child.node ≡ node_at c.args.nodes.bytes.now c.args.nodes.count (c.loop-child.child-iterator.end - 1)
+    node_of c.in-Some.child.node ≡ node_at c.args.bytes.now c.args.count (c.loop-child.child-iterator.end - 1)
 the_read t c = let i = c.loop-child.invariant in rw (i.0, i.1) at c.in-Some.ensures.steps.3.1
 
 -- the child
 the_turn : (t : ℕ) (c : In-Some t) →
     let d = c.node-root.result in
     let i = c.loop-child in
-    Turn c.args.nodes.bytes.now c.args.nodes.count d.kind d.arg c.args.from c.args.size i.child-iterator.end
+    Turn c.args.bytes.now c.args.count d.kind d.arg c.args.from c.args.size i.child-iterator.end
     (λ t. WrittenAt c.args.text.now i.text i.to c.args.end t) c.requires.0.here.rule (node_of c.in-Some.child.node)
 the_turn t c =
     let h = c.requires.0.here in
     let i = c.loop-child.invariant in
     turn _ _ _ _ _ i.4 i.3 (rw i.2 at c.in-Some.ensures.steps.3.0) (the_read t c) h.rule h.sized h.stands
 
-the_stands : (t : ℕ) (c : In-Some t) → EncodedAt (the_turn t c).child (cell_at c.args.nodes.bytes.now c.args.nodes.count) c.in-Some.child.start
+the_stands : (t : ℕ) (c : In-Some t) → EncodedAt (the_turn t c).child (cell_at c.args.bytes.now c.args.count) c.in-Some.child.start
 the_stands t c = let u = the_turn t c in subst (EncodedAt u.child (cell_at _ _)) (sym (the_start t c)) u.stands
+
+pub invariant_of-nodes : goal.invariant_of-nodes
+invariant_of-nodes t c = record { in_bounds = c.requires.0.long }
 
 pub overflow_sub-at : goal.overflow_sub-at
 overflow_sub-at t c = omega (arith, the_node c.requires.0)
@@ -118,10 +121,10 @@ prepend_leaf-to-requires t c =
       omega (arith, p, put_start c.requires.2 u.holds),
     )
 
-pub put_rule-to-requires : goal.put_rule-to-requires
-put_rule-to-requires t c =
+pub put_rule_in-to-requires : goal.put_rule_in-to-requires
+put_rule_in-to-requires t c =
     let h = c.requires.0 in
-    let at = goal.at.put_rule-to-requires t c in
+    let at = goal.at.put_rule_in-to-requires t c in
     let u = the_turn t at.In-Some in
     let start = the_start t at.In-Some in
     let pos = u.some in
@@ -146,7 +149,7 @@ the_text : (t : ℕ) (c : Joined-is_leaf-2 t) →
     let d = c.in-Some.child in
     let p = c.prepend_back-to in
     0 < d.node.size → d.node.size ≤ c.loop-child.child-iterator.end →
-    (q : Rule) → size q ≡ d.node.size → EncodedAt q (cell_at c.args.nodes.bytes.now c.args.nodes.count) d.start →
+    (q : Rule) → size q ≡ d.node.size → EncodedAt q (cell_at c.args.bytes.now c.args.count) d.start →
     WrittenAt p.new.text c.if-is_leaf-2.text c.if-is_leaf-2.to p.result (text_of q)
 the_text t c some fits q e st =
     let i = c.loop-child.invariant in
@@ -159,7 +162,7 @@ the_text t c some fits q e st =
         w.to-is,
         ← leaf_text_lem _ _ _ _ _ read last (sym c.is_leaf-in-loop-child.ensures ∙ w.if-is_leaf-2.true) q e st,
       ) w.prepend_leaf-to.ensures
-      | else-is_leaf-2 w ↦ rw (w.text-is, w.to-is) (w.put_rule-to.ensures q e st)
+      | else-is_leaf-2 w ↦ rw (w.text-is, w.to-is) (w.put_rule_in-to.ensures q e st)
     ]
 
 pub prepend_front-to-requires : goal.prepend_front-to-requires
@@ -195,13 +198,13 @@ pub prepend_opening-requires : goal.prepend_opening-requires
 prepend_opening-requires t c =
     let h = c.requires.0.here in
     let i = c.loop-child.invariant in
-    let (v, e, x) = walks_done c.args.nodes.bytes.now c.args.nodes.count c.args.from c.args.size c.loop-child.child-iterator.end i.4
+    let (v, e, x) = walks_done c.args.bytes.now c.args.count c.args.from c.args.size c.loop-child.child-iterator.end i.4
     (rw i.2 at c.in-None.ensures.steps.3.0) h.rule h.sized h.stands in
     (omega (arith, x.ends, the_fit c.requires.0 c.requires.1, simp length-append at (ap length e)), put_start c.requires.2 x)
 
 pub returns : goal.returns
 returns t c = λ ρ e st.
     let i = c.loop-child.invariant in
-    let (v, p, x) = walks_done c.args.nodes.bytes.now c.args.nodes.count c.args.from c.args.size c.loop-child.child-iterator.end i.4
+    let (v, p, x) = walks_done c.args.bytes.now c.args.count c.args.from c.args.size c.loop-child.child-iterator.end i.4
     (rw i.2 at c.in-None.ensures.steps.3.0) ρ e st in
     rw p (written_at_before c.requires.2 x c.prepend_opening.ensures)

@@ -1,4 +1,4 @@
--- `print_text::size::text_size` meets its contract: the walk over the children keeps the bytes of the text that was passed, and each child
+-- `print_text::size::text_size_in` meets its contract: the walk over the children keeps the bytes of the text that was passed, and each child
 -- has fewer nodes than its parent.
 use Rattle.std.proofs.Common.{◌≡◌, refl, sym, subst, ◌∙◌, ℕ, List, ◌+◌, ◌-◌, ◌≤◌, ◌<◌, length, length-append, arith}
 use Rattle.rules.specs.Rule.{Rule, size}
@@ -14,8 +14,8 @@ use Rattle.image.proofs.Laws.SiblingLaws.{children_stand}
 use Rattle.print_text.specs.Print.{text_of}
 use Rattle.print_text.specs.Inner.Pieces.{opening_of, front_of, back_of}
 use Rattle.print_text.proofs.Laws.ChildrenLaws.{TextWalks, walks_start, Turn, turn, turn_room, walks_next, walks_done, leaf_text_lem, text_short}
-use Rattle.print_text.proofs.size.+text_size.Goals as goal
-use Rattle.print_text.proofs.size.+text_size.Goals.{After-around_size-total, After-leaf_size-total}
+use Rattle.print_text.proofs.size.+text_size_in.Goals as goal
+use Rattle.print_text.proofs.size.+text_size_in.Goals.{After-around_size-total, After-leaf_size-total}
 
 -- at entry there is a node, and the last one is within the image
 the_node : {s : List ℕ} {n from k : ℕ} → ValidSubtree s n from k → (0 < k) × (from + k ≤ n)
@@ -33,14 +33,14 @@ the_around t c = rw c.in-Some.ensures.steps.3.4 at c.around_size-total.ensures
 
 -- its node
 the_read : (t : ℕ) (c : After-around_size-total t) →
-    node_of c.in-Some.child.node ≡ node_at c.args.nodes.bytes.now c.args.nodes.count (c.loop-child.child-iterator.end - 1)
+    node_of c.in-Some.child.node ≡ node_at c.args.bytes.now c.args.count (c.loop-child.child-iterator.end - 1)
 the_read t c = let i = c.loop-child.invariant in rw (i.0, i.1) at c.in-Some.ensures.steps.3.1
 
 -- the child
 the_turn : (t : ℕ) (c : After-around_size-total t) →
     let d = c.node-root.result in
     let total = c.loop-child.total in
-    Turn c.args.nodes.bytes.now c.args.nodes.count d.kind d.arg c.args.from c.args.size
+    Turn c.args.bytes.now c.args.count d.kind d.arg c.args.from c.args.size
     c.loop-child.child-iterator.end (λ t. total ≡ length (opening_of d.kind d.arg) + length t)
     c.requires.0.here.rule (node_of c.in-Some.child.node)
 the_turn t c =
@@ -48,7 +48,7 @@ the_turn t c =
     let i = c.loop-child.invariant in
     turn _ _ _ _ _ i.4 i.3 (rw i.2 at c.in-Some.ensures.steps.3.0) (the_read t c) h.rule h.sized h.stands
 
-the_stands : (t : ℕ) (c : After-around_size-total t) → EncodedAt (the_turn t c).child (cell_at c.args.nodes.bytes.now c.args.nodes.count) c.in-Some.child.start
+the_stands : (t : ℕ) (c : After-around_size-total t) → EncodedAt (the_turn t c).child (cell_at c.args.bytes.now c.args.count) c.in-Some.child.start
 the_stands t c = let u = the_turn t c in subst (EncodedAt u.child (cell_at _ _)) (sym (the_start t c)) u.stands
 
 -- its bytes fit a number
@@ -63,7 +63,7 @@ the_room t c =
 abbrev Counted : (t : ℕ) (c : After-around_size-total t) → ℕ → Type 0
 Counted t c r =
     let d = c.in-Some.child in
-    (q : Rule) → size q ≡ d.node.size → EncodedAt q (cell_at c.args.nodes.bytes.now c.args.nodes.count) d.start → r ≡ length (text_of q)
+    (q : Rule) → size q ≡ d.node.size → EncodedAt q (cell_at c.args.bytes.now c.args.count) d.start → r ≡ length (text_of q)
 
 -- so they have room, and the walk continues
 counted_room : (t : ℕ) (c : After-around_size-total t) {r : ℕ} →
@@ -78,8 +78,8 @@ counted_next : (t : ℕ) (c : After-around_size-total t) {r : ℕ} →
     let i = c.loop-child in
     let k = c.next.new.self in
     let a = c.args in
-    (k.nodes.bytes.now ≡ a.nodes.bytes.now) × (k.nodes.count ≡ a.nodes.count) × (k.from ≡ a.from) × (k.end ≤ a.from + a.size - 1)
-    × TextWalks a.nodes.bytes.now a.nodes.count d.kind d.arg a.from a.size k.end
+    (k.nodes.bytes.now ≡ a.bytes.now) × (k.nodes.count ≡ a.count) × (k.from ≡ a.from) × (k.end ≤ a.from + a.size - 1)
+    × TextWalks a.bytes.now a.count d.kind d.arg a.from a.size k.end
     (λ t. i.total + c.around_size-total.result + r ≡ length (opening_of d.kind d.arg) + length t)
 counted_next t c h =
     let i = c.loop-child.invariant in
@@ -93,6 +93,9 @@ counted_next t c h =
           (walks_next _ _ _ _ _ i.4 i.3 (rw i.2 at steps.3.0) (the_read t c)
           (λ q v e st x. simp length-append (omega (arith, around, h q e (rw (the_start t c) st))))),
     )
+
+pub invariant_of-nodes : goal.invariant_of-nodes
+invariant_of-nodes t c = record { in_bounds = c.requires.0.long }
 
 pub overflow_sub-at : goal.overflow_sub-at
 overflow_sub-at t c = omega (arith, the_node c.requires.0)
@@ -139,7 +142,7 @@ leaf_size-total-requires t c =
 -- a leaf's bytes
 leaf_counted : (t : ℕ) (c : After-leaf_size-total t) → let d = c.in-Some.child in
     0 < d.node.size → d.node.size ≤ c.loop-child.child-iterator.end →
-    (q : Rule) → size q ≡ d.node.size → EncodedAt q (cell_at c.args.nodes.bytes.now c.args.nodes.count) d.start →
+    (q : Rule) → size q ≡ d.node.size → EncodedAt q (cell_at c.args.bytes.now c.args.count) d.start →
     c.leaf_size-total.result ≡ length (text_of q)
 leaf_counted t c some fits q e st =
     let i = c.loop-child.invariant in
@@ -159,11 +162,11 @@ loop-child-preserved-then-is_leaf-2 t c =
     let u = the_turn t d in
     counted_next t d (leaf_counted t c u.some (omega (arith, u.fits)))
 
-pub text_size-total-requires : goal.text_size-total-requires
-text_size-total-requires t c =
+pub text_size_in-total-requires : goal.text_size_in-total-requires
+text_size_in-total-requires t c =
     let h = c.requires.0 in
     let n = the_node h in
-    let d = (goal.at.text_size-total-requires t c).After-around_size-total in
+    let d = (goal.at.text_size_in-total-requires t c).After-around_size-total in
     let u = the_turn t d in
     let p = u.some in
     let q = u.fits in
@@ -183,14 +186,14 @@ text_size-total-requires t c =
 
 pub overflow_add-total-else-is_leaf-2 : goal.overflow_add-total-else-is_leaf-2
 overflow_add-total-else-is_leaf-2 t c =
-    omega (arith, counted_room t (goal.at.overflow_add-total-else-is_leaf-2 t c).After-around_size-total c.text_size-total.ensures)
+    omega (arith, counted_room t (goal.at.overflow_add-total-else-is_leaf-2 t c).After-around_size-total c.text_size_in-total.ensures)
 
 pub loop-child-preserved : goal.loop-child-preserved
-loop-child-preserved t c = counted_next t (goal.at.loop-child-preserved t c).After-around_size-total c.text_size-total.ensures
+loop-child-preserved t c = counted_next t (goal.at.loop-child-preserved t c).After-around_size-total c.text_size_in-total.ensures
 
 pub returns : goal.returns
 returns t c = λ ρ e st.
     let i = c.loop-child.invariant in
-    let (t, p, h) = walks_done c.args.nodes.bytes.now c.args.nodes.count c.args.from c.args.size c.loop-child.child-iterator.end i.4
+    let (t, p, h) = walks_done c.args.bytes.now c.args.count c.args.from c.args.size c.loop-child.child-iterator.end i.4
     (rw i.2 at c.in-None.ensures.steps.3.0) ρ e st in
     rw p (rw length-append h)
