@@ -4,12 +4,16 @@ ghost use Rattle.std.specs.Prelude.{◌≡◌, ◌≤◌, ◌+◌, length};
 ghost use Rattle.slices.specs.Text.{WrittenAt};
 ghost use Rattle.decimal.specs.Digits.{digits_of};
 
-// How many digits a number has. A logarithm is a u32, for which usize has no From: it is at most 19, so the cast is lossless.
-#[tactic(auto, using(crate::proofs::Laws::DigitsLaws::digits_log, crate::proofs::Laws::DigitsLaws::digits_max))]
+// How many digits a number has: one where it is below ten, as most parts of a duration are, so that the size of a text takes no longer
+// than by division. A logarithm is a u32, for which usize has no From: it is at most 19, so the cast is lossless.
+#[tactic(auto, using(crate::proofs::Laws::DigitsLaws::digits_log, crate::proofs::Laws::DigitsLaws::digits_one))]
 pub fn digit_count(n: u64) -> usize
     ensures { result ≡ length (digits_of n) }
 {
-    n.max(1).ilog10() as usize + 1
+    if n < 10 {
+        return 1;
+    }
+    n.ilog10() as usize + 1
 }
 
 // Writes a number's digits so that they end at a position, and answers where they begin. A `for` would first count the digits, which
