@@ -13,7 +13,7 @@ use crate::index::Index;
 use store_table::{Table, same_name};
 
 // The first entry that has this name among the first `first`, by a look at each. By index: `table.entries().take(first)` counts twice,
-// and deciding for names of no store took a fourth longer.
+// and deciding for names of no store took a fifth longer.
 pub fn position(name: &[u8], table: Table, first: usize) -> Option<usize>
     requires { first ≤ count_in table.bytes.now }
     ensures { Finds name.now (entries_in table.entry.bytes.now) first result }

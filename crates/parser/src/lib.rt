@@ -17,8 +17,7 @@ use refusals::Refusal;
 use signs::Sign;
 
 // How the primary at a position begins, where `depth` brackets are open. What it adds to `primary_start_at` is the clause
-// `ahead`, by cases: a call inside the cycle gets its proof from such facts alone. Inlined, since its answer goes through memory
-// otherwise, and a rule of many short names takes a third longer.
+// `ahead`, by cases: a call inside the cycle gets its proof from such facts alone. Inlined: a call would copy its answer once more.
 #[inline(always)]
 #[tactic(auto, using(crate::proofs::Laws::PrimaryLaws::next_ahead))]
 fn start_at(text: &[u8], at: usize, depth: usize) -> Result<PrimaryStart, Refusal>
