@@ -75,7 +75,8 @@ fn word_start(text: &[u8], depth: usize, word: Word) -> Result<PrimaryStart, Ref
     unquoted_start(text, depth, word)
 }
 
-// How the primary at a position begins, where `depth` brackets are open.
+// How the primary at a position begins, where `depth` brackets are open. Inlined into the parser, as `start_at` there is.
+#[inline(always)]
 pub fn primary_start_at(text: &[u8], at: usize, depth: usize) -> Result<PrimaryStart, Refusal>
     ensures { Begins text.now at (at + 1) (left text.now at - 1) result (primary_start text.now depth (tokens_from text.now at)) }
 {
