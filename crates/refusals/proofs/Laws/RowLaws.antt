@@ -54,7 +54,8 @@ found : (n : ℕ) (l : List Cause) (c : Cause) → find (λ d. eqb (number d) n)
 found n [] c e = absurd (none-some c e)
 found n (d ∷ l) c e = by (eqb (number d) n) refl (λ f. found n l c f) e
   where
-    by : (b : Bool) → eqb (number d) n ≡ b → (find (λ d. eqb (number d) n) l ≡ Some c → Found n l c) → cond b (Some d) (find (λ d. eqb (number d) n) l) ≡ Some c → Found n (d ∷ l) c
+    by : (b : Bool) → eqb (number d) n ≡ b → (find (λ d. eqb (number d) n) l ≡ Some c → Found n l c)
+        → cond b (Some d) (find (λ d. eqb (number d) n) l) ≡ Some c → Found n (d ∷ l) c
     by true p more e =
         let same : d ≡ c = same_Some d c e in
         record { numbered = rw (← same) (eqb→eq (number d) n (rw p tt)); at = 0; inside = omega arith; here = λ x. same }

@@ -11,7 +11,10 @@ use Rattle.nodes.proofs.Nodes.push_name.Goals as goal
 pub returns : goal.returns
 unfolding part
 returns g c =
-    let copied = c.append-self.ensures in
+    let b = c.args.self.now in
+    let name = part c.args.text.now c.args.start c.args.end in
     let size = part_length c.args.text.now c.args.start c.args.end c.requires.ordered c.requires.inside in
-    let ended : WrittenAt c.args.self.now.names c.append-self.new.text c.args.self.now.m (c.args.self.now.m + (c.args.end - c.args.start)) (part c.args.text.now c.args.start c.args.end) = record { ends = ap (λ i. c.args.self.now.m + i) size; text = copied.text } in
-    name_written c.requires (omega arith) (rw c.name_arg.ensures at c.push.ensures) (written_at_front (omega arith) ended)
+    let end = b.m + (c.args.end - c.args.start) in
+    let copied : WrittenAt b.names c.append-self.new.text b.m end name =
+    record { ends = ap (λ i. b.m + i) size; text = c.append-self.ensures.text } in
+    name_written c.requires (omega arith) (rw c.name_arg.ensures at c.push.ensures) (written_at_front (omega arith) copied)
