@@ -7,7 +7,7 @@ ghost use Rattle.print_text.specs.Print.{text_of};
 use image::{NodeTable, is_leaf};
 use print_pieces::{prepend_back, prepend_front, prepend_leaf, prepend_opening};
 
-// The rule whose nodes are the `size` from `from` on: the size falls at each call. A struct of `nodes`, `from` and `size`
+// The rule whose nodes are the `size` from `from` on. A struct of `nodes`, `from` and `size`
 // for `evaluate` too could not hold where the names lie; one of `text` and `end` would add what it keeps of them to each clause.
 pub fn put_rule(nodes: NodeTable, from: usize, size: usize, text: &mut [u8], end: usize) -> usize
     requires { ValidSubtree nodes.bytes.now nodes.count from size × (OfRule nodes.bytes.now nodes.count from size (λ ρ. length (text_of ρ) ≤ end)) × (end ≤ length text.old) }
@@ -16,8 +16,8 @@ pub fn put_rule(nodes: NodeTable, from: usize, size: usize, text: &mut [u8], end
     put_rule_in(nodes.bytes, nodes.count, from, size, text, end)
 }
 
-// The same for the bytes and the count of a table. It calls itself for each child, and a table passed by value would be copied into
-// each frame: 48 bytes more of stack for each level of a rule.
+// The same for the bytes and the count of a table: the size falls at each call. A table passed by value would be copied into each
+// frame: 48 bytes more of stack for each level of a rule.
 fn put_rule_in(
     bytes: &[u8],
     count: usize,

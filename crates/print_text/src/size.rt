@@ -84,7 +84,7 @@ fn around_size(kind: u32, child: u32, last: bool, between: usize) -> usize
     between
 }
 
-// The bytes of the rule whose nodes are the `size` from `from` on: the size falls at each call. A struct of `nodes`, `from` and `size`
+// The bytes of the rule whose nodes are the `size` from `from` on. A struct of `nodes`, `from` and `size`
 // for `evaluate` too could hold neither where the names lie nor that there are at most 2,048 nodes, which `evaluate` does not ask.
 pub fn text_size(nodes: NodeTable, from: usize, size: usize) -> usize
     requires { ValidSubtree nodes.bytes.now nodes.count from size × (nodes.count ≤ 2048) }
@@ -93,8 +93,8 @@ pub fn text_size(nodes: NodeTable, from: usize, size: usize) -> usize
     text_size_in(nodes.bytes, nodes.count, from, size)
 }
 
-// The same for the bytes and the count of a table. It calls itself for each child, and a table passed by value would be copied into
-// each frame: 32 bytes more of stack for each level of a rule.
+// The same for the bytes and the count of a table: the size falls at each call. A table passed by value would be copied into each
+// frame: 32 bytes more of stack for each level of a rule.
 fn text_size_in(bytes: &[u8], count: usize, from: usize, size: usize) -> usize
     requires { ValidSubtree bytes.now count from size × (count ≤ 2048) }
     ensures { OfRule bytes.now count from size (λ ρ. result ≡ length (text_of ρ)) }

@@ -4,13 +4,12 @@ use mathlib.Core.Bool.{Bool, true, false, cond}
 use mathlib.Core.List.{List, [], ◌∷◌}
 use mathlib.Core.Logic.{◌⊎◌}
 use Prim.Native.Nat.{ℕ, zero, suc, ◌+◌, ◌-◌, ◌≤◌, ◌<◌}
-use native.Mathlib.Nat.{le_of_suc-le-suc, not-suc-le-zero}
 use native.Mathlib.Omega.{arith}
 use lib.Dec.{eqb, eqb→eq}
 use lib.ListN.{length, get_or, get_or-eq_default}
 use Rattle.std.specs.Prelude.{Option, Some, None, find}
 use Rattle.std.proofs.lemmas.Option.{none-some, same_Some}
-use Rattle.std.proofs.lemmas.List.{get_or-map}
+use Rattle.std.proofs.lemmas.List.{get_or-map, get_or_default}
 use Rattle.std.proofs.lemmas.List.FromFn.{get_or-range_with_len}
 use Rattle.refusals.specs.Refusals.{number, word, meaning}
 use Rattle.refusals.specs.Inner.Rows.{causes, cause_of, TableRow, row, row_for, table, row_of}
@@ -93,17 +92,11 @@ cause_out n h = by (cause_of n) refl
     by None e = e
     by (Some c) e = let r = number_range n c e in absurd (omega (arith, h))
 
--- an element within a list does not depend on the value taken for those past its end
-any_default : (l : List TableRow) (i : ℕ) (d e : TableRow) → i < length l → get_or l i d ≡ get_or l i e
-any_default [] i d e h = absurd (not-suc-le-zero h)
-any_default (x ∷ l) zero d e h = refl
-any_default (x ∷ l) (suc i) d e h = any_default l i d e (le_of_suc-le-suc h)
-
 -- the table read by number
 pub row_in : (n : ℕ) (d : TableRow) → (n ≡ 0 → ⊥) → n - 1 < 22 → get_or table (n - 1) d ≡ row_of n
 unfolding row_of
 row_in zero d h k = absurd (h refl)
-row_in (suc i) d h k = let e : suc i - 1 ≡ i = omega arith in rw e (any_default table i d (row (suc i) [] []) (omega arith))
+row_in (suc i) d h k = let e : suc i - 1 ≡ i = omega arith in rw e (get_or_default table i d (row (suc i) [] []) (omega arith))
 
 pub row_out : (n : ℕ) → 22 < n → row n [] [] ≡ row_of n
 unfolding row_of

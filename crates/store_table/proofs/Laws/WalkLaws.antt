@@ -113,8 +113,7 @@ pub name_start_next : (s : List ℕ) (k : ℕ) → TableInBounds s → k < count
 name_start_next s k h lt = omega (arith, rw (← add-one) at (sum_next (lengths_in s) k (omega (arith, lengths_count s h))))
 
 pub standing_start : (s : List ℕ) (count : ℕ) → TableInBounds s → count ≡ count_in s → EntryWalk s count 0 (names_start count)
-unfolding entries_in
-standing_start s count h e = record { in_bounds = h; counted = e; fills = omega (arith, h.names); rest = rw e }
+standing_start s count h e = rw e (walk_at s 0 h (sym (name_start_first s)))
 
 -- entry k, whose name has the bytes from `at` up to `at + len`
 abbrev pub entry_at : List ℕ → ℕ → ℕ → ℕ → Entry
