@@ -7,3 +7,5 @@ pub mod fault;
 pub mod fields;
 pub mod input;
 pub mod memory;
+#[cfg(test)]
+mod tests;

@@ -5,17 +5,17 @@
 mod run;
 
 use case_lines::answers::print_count;
-use case_lines::case::case_of;
+use case_lines::case::case_in;
 use case_lines::fields::SPACE;
 use case_lines::input::{next_case, start};
 use run::run;
 use std::io::{BufWriter, Read, Result, Write};
 
-// Runs the case that a line gives.
+// Runs the case that a line gives. Where it gives none, it is not in the format, as `case_in` promises.
 fn run_line<W: Write>(output: &mut W, line: &[u8], space: &mut [u8]) -> Result<()> {
-    match case_of(line, space) {
+    match case_in(line, space) {
         Ok(case) => run(output, &case),
-        Err(fault) => writeln!(output, "{fault}"),
+        Err(_) => output.write_all(b"not in the format\n"),
     }
 }
 

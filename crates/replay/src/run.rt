@@ -1,6 +1,6 @@
 // A case run, and its answer printed.
 use case_lines::answers::{print_bytes, print_decision, print_verdict};
-use case_lines::case::Case;
+use case_lines::case::LentCase;
 use case_lines::fields::ROOM;
 use case_lines::memory::{AFTER, filled, print_lent};
 use page::PAGE_BYTES;
@@ -26,22 +26,29 @@ fn report<W: Write>(output: &mut W, text: &[u8], args: &[u8]) -> Result<()> {
 }
 
 // Runs a case.
-pub fn run<W: Write>(output: &mut W, case: &Case) -> Result<()> {
+pub fn run<W: Write>(output: &mut W, case: &LentCase<'_>) -> Result<()> {
     match case {
-        Case::Read { text, room } => lend(output, *room, |buffer| prune::prune_read(text, buffer)),
-        Case::Print { image, room } => lend(
+        LentCase::Read { text, room } => lend(
+            output,
+            *room,
+            |buffer| prune::prune_read(text, buffer),
+        ),
+        LentCase::Print { image, room } => lend(
             output,
             *room,
             |buffer| prune::prune_print(image, buffer),
         ),
-        Case::Decide {
+        LentCase::Decide {
             image,
             stores,
             age,
             list,
         } => print_decision(output, prune::prune_decide(image, stores, *age, list)),
-        Case::Check { image, stores } => print_verdict(output, prune::prune_check(image, stores)),
-        Case::Judge { text, stores } => print_verdict(output, prune::prune_judge(text, stores)),
-        Case::Report { text, args } => report(output, text, args),
+        LentCase::Check { image, stores } => print_verdict(
+            output,
+            prune::prune_check(image, stores),
+        ),
+        LentCase::Judge { text, stores } => print_verdict(output, prune::prune_judge(text, stores)),
+        LentCase::Report { text, args } => report(output, text, args),
     }
 }
